@@ -1,0 +1,4 @@
+pub mod Opened
+pub mod Crc
+pub mod Cases
+pub mod Refused

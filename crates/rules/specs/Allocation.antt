@@ -1,0 +1,66 @@
+-- Document 01, "New blocks": `allocate_data`.
+-- Assumes nothing.
+use mathlib.Core.List.{List, [], _∷_, _++_, map, flatMap, getLast?}
+use mathlib.Core.Bool.{Bool, not, _&&_}
+use mathlib.Core.Option.{Option, none, some}
+use Prim.Native.Nat.{ℕ, suc, _+_, _-_, _*_, _/_, _%_, min}
+use lib.Dec.{eqb, ltb, leb}
+use lib.ListN.{length, take}
+use Rattle.rules.specs.Lists.{if_then_else_, maybe, range, filter, member, begun}
+use Rattle.rules.specs.Sizes.{groupBlocks}
+
+-- the allocation groups of a store
+unfoldable pub allocationGroups : ℕ → ℕ
+allocationGroups blocks = begun blocks groupBlocks
+
+-- "groups from the hint modulo their number, cyclic"
+unfoldable pub groupOrder : ℕ → ℕ → List ℕ
+groupOrder groups hint = map (λ i. (hint % groups + i) % groups) (range 0 groups)
+
+-- where a group starts and ends
+unfoldable pub groupStart : ℕ → ℕ
+groupStart group = group * groupBlocks
+
+unfoldable pub groupEnd : ℕ → ℕ → ℕ
+groupEnd blocks group = min (groupStart group + groupBlocks) blocks
+
+-- "the highest block taken by this call in that group"
+unfoldable pub highest : ℕ → List ℕ → ℕ → Option ℕ
+highest blocks taken group =
+    getLast? (filter (λ b. member b taken) (range (groupStart group) (groupEnd blocks group - groupStart group)))
+
+-- the block after it; "its start if none, or if that was its last"
+unfoldable pub cursor : ℕ → List ℕ → ℕ → ℕ
+cursor blocks taken group =
+    maybe (groupStart group) (λ b. if eqb (suc b) (groupEnd blocks group) then groupStart group else suc b) (highest blocks taken group)
+
+-- "in each, from after the highest block taken by this call in that group [..], then around"
+unfoldable pub searched : ℕ → List ℕ → ℕ → List ℕ
+searched blocks taken group =
+    range (cursor blocks taken group) (groupEnd blocks group - cursor blocks taken group)
+    ++ range (groupStart group) (cursor blocks taken group - groupStart group)
+
+-- "A free block is one whose used bit is clear." Free, and untaken by this call
+unfoldable pub available : (ℕ → Bool) → List ℕ → ℕ → Bool
+available used taken b = not (used b) && not (member b taken)
+
+-- the available blocks in the order in which they are found
+unfoldable pub found : ℕ → (ℕ → Bool) → ℕ → List ℕ → List ℕ
+found blocks used hint taken =
+    filter (available used taken) (flatMap (searched blocks taken) (groupOrder (allocationGroups blocks) hint))
+
+-- these blocks ascending
+unfoldable pub sorted : ℕ → List ℕ → List ℕ
+sorted blocks bs = filter (λ b. member b bs) (range 0 blocks)
+
+-- 13: "Fewer blocks have a clear used bit and are untaken by this call's earlier units than the unit wants."
+unfoldable pub tooFew : ℕ → (ℕ → Bool) → List ℕ → ℕ → Bool
+tooFew blocks used taken n = ltb (length (filter (available used taken) (range 0 blocks))) n
+
+-- `allocate_data`: the n blocks that are found first, ascending
+unfoldable pub allocateData : ℕ → (ℕ → Bool) → ℕ → List ℕ → ℕ → List ℕ
+allocateData blocks used hint taken n = sorted blocks (take n (found blocks used hint taken))
+
+-- "The hint becomes the group of the last one so assigned, if any."
+unfoldable pub hintAfter : ℕ → List ℕ → ℕ
+hintAfter hint new = maybe hint (λ b. b / groupBlocks) (getLast? new)

@@ -1,0 +1,117 @@
+-- Document 01, "Demand 3": a single claim about every list of calls on a store that fresh made. Stated here, proved in the crate `history`.
+-- Assumes nothing.
+use mathlib.Core.Path.{_≡_}
+use mathlib.Core.List.{List, [], _∷_, _++_, map, flatMap, List·Memᴰ}
+use mathlib.Core.Bool.{Bool, true, false, not}
+use mathlib.Core.Option.{Option, some}
+use Prim.Native.Nat.{ℕ, _+_, _<_}
+use lib.Dec.{eqb, ltb}
+use lib.ListN.{length, drop}
+use Rattle.rules.specs.Lists.{if_then_else_, range, count, member}
+use Rattle.rules.specs.Card.{Card}
+use Rattle.rules.specs.Extent.{Extent}
+use Rattle.rules.specs.Store.{Store, StoreBytes, Volume, decode, imageBlocks}
+use Rattle.rules.specs.Refusal.{Result}
+use Rattle.rules.specs.Call.{Call, InRange, call}
+use Rattle.rules.specs.Call.Call.{fresh, enter, write, grow, read, settle, fill}
+use Rattle.rules.specs.Plain.{Fed, File, plain, fileBytes, plainRead}
+
+-- ---- a list of calls
+
+-- the store after the calls
+unfoldable pub run : List Call → Store → Store
+run [] s = s
+run (c ∷ cs) s = run cs (call c s .store)
+
+-- a call was refused
+unfoldable pub wasRefused : Result → Bool
+wasRefused r = not (eqb (r .number) 0)
+
+-- what the plain arrays are fed of the calls
+unfoldable pub fed : List Call → Store → List Fed
+fed [] s = []
+fed (c ∷ cs) s = record { call = c; refused = wasRefused (call c s) } ∷ fed cs (call c s .store)
+
+-- the number that a fresh gives
+unfoldable pub givenReserved : Call → ℕ → ℕ
+givenReserved (fresh uuid reserved) n = reserved
+givenReserved (enter object seconds nanoseconds) n = n
+givenReserved (write object offset bytes seconds nanoseconds) n = n
+givenReserved (grow object size seconds nanoseconds) n = n
+givenReserved (read object offset out) n = n
+givenReserved settle n = n
+givenReserved fill n = n
+
+-- "the number given to the last accepted fresh", n before these calls
+unfoldable pub lastReserved : List Fed → ℕ → ℕ
+lastReserved [] n = n
+lastReserved (f ∷ fs) n = lastReserved fs (if f .refused then n else givenReserved (f .call) n)
+
+-- every call of the list is in range
+pub data AllInRange : List Call → Type 0 where
+  none : AllInRange []
+  one : {c : Call} {cs : List Call} → InRange c → AllInRange cs → AllInRange (c ∷ cs)
+
+-- ---- places
+
+-- "Place: object and logical block", and the block of the device that stands there
+pub record Place : Type 0 where
+  pub object : ℕ
+  pub logical : ℕ
+  pub block : ℕ
+
+-- "an extent with logical l, physical p and count n puts block p + i at its object's place l + i, for each i below n"
+unfoldable pub placesOf : Extent → List Place
+placesOf e = map (λ i. record { object = e .object; logical = e .logical + i; block = e .physical + i }) (range 0 (e .count))
+
+-- the places of all files
+unfoldable pub places : Volume → List Place
+places v = flatMap placesOf (v .books .extents)
+
+-- a block's holders: being reserved, free, retired, and each place of each file that holds it, counted together
+unfoldable pub holders : ℕ → Volume → ℕ → ℕ
+holders reserved v b =
+    (if ltb b reserved then 1 else 0)
+    + (if v .used b then 0 else 1)
+    + (if v .retired b then 1 else 0)
+    + count (λ p. eqb (p .block) b) (places v)
+
+-- the places of an object's file
+unfoldable pub filePlaces : Volume → ℕ → ℕ
+filePlaces v object = count (λ p. eqb (p .object) object) (places v)
+
+-- ---- the claim
+
+-- what a read gave is what the plain array of its object has there, and the rest of its buffer is as it was
+pub record PlainAnswer (files : List File) (object offset : ℕ) (out : List ℕ) (r : Result) : Type 0 where
+  pub bytes : List ℕ
+  pub known : fileBytes files object ≡ some bytes
+  pub count : r .count ≡ length (plainRead bytes offset (length out))
+  pub buffer : r .out ≡ plainRead bytes offset (length out) ++ drop (r .count) out
+
+-- the refusals that never come: "2, 9 to 12 and 14"
+abbrev pub neverNumbers : List ℕ
+neverNumbers = 2 ∷ 9 ∷ 10 ∷ 11 ∷ 12 ∷ 14 ∷ []
+
+-- a store that calls left, the plain arrays after the same calls, and the number given to the last accepted fresh
+pub record Sound (files : List File) (reserved : ℕ) (s : Store) : Type 0 where
+  -- every read that is accepted gives the plain array's bytes
+  pub reads : (object offset : ℕ) (out : List ℕ) → InRange (read object offset out) → call (read object offset out) s .number ≡ 0
+      → PlainAnswer files object offset out (call (read object offset out) s)
+  -- every block is in exactly one place
+  pub onePlace : (b : ℕ) → b < imageBlocks s → holders reserved (decode s) b ≡ 1
+  -- card counts are right
+  pub counts : (c : Card) → List·Memᴰ c (decode s .books .cards) → c .allocated ≡ filePlaces (decode s) (c .object)
+  -- and these refusals never come, whatever is called next
+  pub never : (c : Call) → InRange c → member (call c s .number) neverNumbers ≡ false
+
+-- demand 3: for every store of bytes, every fresh accepted on it, and every list of calls
+abbrev pub Demand3 : Type 0
+Demand3 =
+    (s : Store) → StoreBytes s
+    → (uuid : List ℕ) (reserved : ℕ) → InRange (fresh uuid reserved) → call (fresh uuid reserved) s .number ≡ 0
+    → (cs : List Call) → AllInRange cs
+    → Sound
+    (plain (fed cs (call (fresh uuid reserved) s .store)) [])
+    (lastReserved (fed cs (call (fresh uuid reserved) s .store)) reserved)
+    (run cs (call (fresh uuid reserved) s .store))

@@ -1,0 +1,61 @@
+-- Document 01, "Plain arrays": what the files hold, told from the calls alone. Nothing here sees a store.
+-- Assumes nothing.
+use mathlib.Core.List.{List, [], _∷_, map}
+use mathlib.Core.Bool.{Bool}
+use mathlib.Core.Option.{Option, none, some}
+use Prim.Native.Nat.{ℕ, min}
+use lib.Dec.{eqb}
+use lib.ListN.{length, take, drop}
+use Rattle.rules.specs.Lists.{if_then_else_, maybe, find}
+use Rattle.rules.specs.Sizes.{mostTransfer}
+use Rattle.rules.specs.Bytes.{patch, padded}
+use Rattle.rules.specs.Call.{Call}
+use Rattle.rules.specs.Call.Call.{fresh, enter, write, grow, read, settle, fill}
+
+-- "Fed: each call's arguments without the store's buffers, whether it was refused [..]; nothing else."
+pub record Fed : Type 0 where
+  pub call : Call
+  pub refused : Bool
+
+-- "State: objects, each with its bytes; at the start none." (a plain array)
+pub record File : Type 0 where
+  pub object : ℕ
+  pub bytes : List ℕ
+
+-- the file of this object with its bytes put through f, the others as they are
+unfoldable pub change : ℕ → (List ℕ → List ℕ) → List File → List File
+change object f files = map (λ a. if eqb (a .object) object then record { object = a .object; bytes = f (a .bytes) } else a) files
+
+-- "stand from the offset on, over what was there, with zeros filled in before them if the offset is past the end"
+unfoldable pub overwrite : ℕ → List ℕ → List ℕ → List ℕ
+overwrite offset new old = patch (padded offset old) offset new
+
+-- the step of an accepted call.
+-- "Fresh: none again. Enter: its object, no bytes. Write: empty, no change; else the first 1,048,576 bytes at most [..]. Grow: zeros up to the
+-- new size. Read, settle, fill [..]: no change."
+unfoldable pub accepted : Call → List File → List File
+accepted (fresh uuid reserved) files = []
+accepted (enter object seconds nanoseconds) files = record { object = object; bytes = [] } ∷ files
+accepted (write object offset bytes seconds nanoseconds) files =
+    if eqb (length bytes) 0 then files else change object (overwrite offset (take mostTransfer bytes)) files
+accepted (grow object size seconds nanoseconds) files = change object (padded size) files
+accepted (read object offset out) files = files
+accepted settle files = files
+accepted fill files = files
+
+-- "refused calls: no change"
+unfoldable pub step : Fed → List File → List File
+step f files = if f .refused then files else accepted (f .call) files
+
+-- the plain arrays after what was fed
+unfoldable pub plain : List Fed → List File → List File
+plain [] files = files
+plain (f ∷ fs) files = plain fs (step f files)
+
+-- an object's bytes
+unfoldable pub fileBytes : List File → ℕ → Option (List ℕ)
+fileBytes files object = maybe none (λ a. some (a .bytes)) (find (λ a. eqb (a .object) object) files)
+
+-- "A read's bytes are those from its offset to the end, at most 1,048,576 and at most its buffer's length"
+unfoldable pub plainRead : List ℕ → ℕ → ℕ → List ℕ
+plainRead bytes offset room = take (min room mostTransfer) (drop offset bytes)

@@ -1,0 +1,4 @@
+pub mod Stores
+pub mod Run
+pub mod Refused
+pub mod KeptBlocks
