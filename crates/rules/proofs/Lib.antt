@@ -1,4 +1,16 @@
 pub mod Opened
+pub mod ListLaws
+pub mod ByteLaws
+pub mod FieldLaws
+pub mod BitLaws
+pub mod BookLaws
+pub mod ShiftLaws
+pub mod HeadLaws
+pub mod CardLaws
+pub mod KeyLaws
+pub mod ExtentLaws
+pub mod GroupLaws
+pub mod StoreLaws
 pub mod Crc
 pub mod Cases
 pub mod Refused
