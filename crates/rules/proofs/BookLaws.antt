@@ -9,8 +9,7 @@ use native.Mathlib.Omega.{arith}
 use lib.ListN.{length, take, drop, getD, length-append, length-drop, length-map}
 use lib.Seq.{take-at, drop-at, take-add, take-take, drop-drop, take-append-le, length-take-le}
 use Rattle.rules.specs.Lists.{all}
-use Rattle.rules.specs.Bytes.{Bytes, part, patch, padded}
-use Rattle.rules.specs.Group.{pieces}
+use Rattle.rules.specs.Bytes.{pieces, Bytes, part, patch, padded}
 use Rattle.rules.specs.Book.{decodeBook, encodeBook, zeroBehind}
 use Rattle.rules.proofs.ListLaws.{each-all, each-both, each-map, Each, each-none, each-more, each-weaken, getD-map}
 use Rattle.rules.proofs.ByteLaws.{bytes-append, bytes-take, bytes-drop, bytes-padded, part-drop, drop-take, take-patch, drop-patch, length-padded, drop-padded, padded-take, allZero-replicate}

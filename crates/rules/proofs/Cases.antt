@@ -2,13 +2,13 @@
 -- Assumes nothing.
 use mathlib.Core.Path.{_≡_, refl}
 use mathlib.Core.List.{List, [], _∷_}
-use mathlib.Core.Bool.{Bool, true, false}
+use mathlib.Core.Bool.{true, false}
 use mathlib.Core.Option.{Option, none, some}
 use Prim.Native.Nat.{ℕ, _*_}
 use lib.ListN.{length}
 use Rattle.rules.specs.Extent.{Extent, joins}
 use Rattle.rules.specs.Group.{Group, emptyGroup, setChecksumSlot, compactGroup}
-use Rattle.rules.specs.Units.{Change, writeChange, growChange, writeUnits}
+use Rattle.rules.specs.Units.{writeChange, growChange, writeUnits}
 use Rattle.rules.specs.Kept.{retainedBlocks}
 use Rattle.rules.proofs.Opened.{opened}
 

@@ -13,8 +13,8 @@ use lib.Seq.{ext-getD, take-all, drop-at}
 use borrow.Author.Tests.{eqb-true, eq-eqb}
 use Rattle.rules.specs.Lists.{if_then_else_, maybe, given, range, all}
 use Rattle.rules.specs.Sizes.{groupUnits}
-use Rattle.rules.specs.Bytes.{Bytes, be, le, leDigits, part, bitSet, bitBytes}
-use Rattle.rules.specs.Group.{Group, groupBytes, groupKey, pieces, presence, slotBytes, encodeGroup, slotValues, presenceBits, decodeGroup, groupFixed, absentZero}
+use Rattle.rules.specs.Bytes.{pieces, Bytes, be, le, leDigits, part, bitSet, bitBytes}
+use Rattle.rules.specs.Group.{Group, groupBytes, groupKey, presence, slotBytes, encodeGroup, slotValues, presenceBits, decodeGroup, groupFixed, absentZero}
 use Rattle.rules.proofs.ListLaws.{Each, each-none, each-more, each-any, each-both, each-map, and-left, and-right, length-range, getD-map, getD-map-range, getD-zipWith, length-zipWith}
 use Rattle.rules.proofs.ByteLaws.{be-part-lt, length-leDigits, bytes-leDigits, bytes-append, bytes-part, bytes-drop, le-leDigits-fits, leDigits-le-at, le-lt, length-part, part-add, part-middle}
 use Rattle.rules.proofs.BitLaws.{length-bitBytes, bytes-bitBytes, bitSet-bitBytes, bits-ext}

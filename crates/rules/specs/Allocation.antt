@@ -1,10 +1,10 @@
 -- Document 01, "New blocks": `allocate_data`.
 -- Assumes nothing.
-use mathlib.Core.List.{List, [], _∷_, _++_, map, flatMap, getLast?}
+use mathlib.Core.List.{List, _++_, map, flatMap, getLast?}
 use mathlib.Core.Bool.{Bool, not, _&&_}
-use mathlib.Core.Option.{Option, none, some}
+use mathlib.Core.Option.{Option}
 use Prim.Native.Nat.{ℕ, suc, _+_, _-_, _*_, _/_, _%_, min}
-use lib.Dec.{eqb, ltb, leb}
+use lib.Dec.{eqb, ltb}
 use lib.ListN.{length, take}
 use Rattle.rules.specs.Lists.{if_then_else_, maybe, range, filter, member, begun}
 use Rattle.rules.specs.Sizes.{groupBlocks}

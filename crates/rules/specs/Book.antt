@@ -1,14 +1,14 @@
 -- Document 01: "Cards ascend by object, extents and groups by key, each book packed, zeros after its last record."
 -- A book (document 01's word) is a buffer of records of one width; each width of bytes in it is a place.
 -- Assumes nothing.
-use mathlib.Core.List.{List, [], _∷_, map, flatMap}
+use mathlib.Core.List.{List, map, flatMap}
 use mathlib.Core.Bool.{Bool}
 use Prim.Native.Nat.{ℕ, _*_}
 use lib.ListN.{drop}
-use Rattle.rules.specs.Bytes.{padded, allZero}
+use Rattle.rules.specs.Bytes.{pieces, padded, allZero}
 use Rattle.rules.specs.Card.{Card}
 use Rattle.rules.specs.Extent.{Extent}
-use Rattle.rules.specs.Group.{Group, pieces}
+use Rattle.rules.specs.Group.{Group}
 
 -- the three books, as lists of records
 pub record Books : Type 0 where

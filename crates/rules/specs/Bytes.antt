@@ -5,7 +5,7 @@ use mathlib.Core.Bool.{Bool}
 use Prim.Native.Nat.{ℕ, zero, suc, _+_, _*_, _/_, _%_, _^_, _-_, _<_}
 use lib.Dec.{eqb}
 use lib.ListN.{length, take, drop, getD, replicate}
-use Rattle.rules.specs.Lists.{if_then_else_, all, range}
+use Rattle.rules.specs.Lists.{if_then_else_, all}
 
 -- each element is a byte
 abbrev pub Bytes : List ℕ → Type 0
@@ -38,6 +38,11 @@ part at n s = take n (drop at s)
 -- s with xs in place of the bytes from the place at on
 unfoldable pub patch : List ℕ → ℕ → List ℕ → List ℕ
 patch s at xs = take at s ++ xs ++ drop (at + length xs) s
+
+-- the first n pieces of w bytes each
+unfoldable pub pieces : ℕ → ℕ → List ℕ → List (List ℕ)
+pieces w zero bytes = []
+pieces w (suc n) bytes = take w bytes ∷ pieces w n (drop w bytes)
 
 -- every byte is zero
 unfoldable pub allZero : List ℕ → Bool

@@ -1,6 +1,6 @@
 -- The public calls as one type: each with its arguments and without the store's buffers.
 -- Assumes nothing.
-use mathlib.Core.List.{List, [], _∷_}
+use mathlib.Core.List.{List, []}
 use Prim.Native.Nat.{ℕ, _<_, _^_}
 use Rattle.rules.specs.Bytes.{Bytes}
 use Rattle.rules.specs.Store.{Store}

@@ -8,7 +8,6 @@ use lib.ListN.{length}
 use Rattle.rules.specs.Lists.{given, insert}
 use Rattle.rules.specs.Sizes.{mostSeconds, nanosecondsBound}
 use Rattle.rules.specs.Card.{Card, cardBytes, cardBefore}
-use Rattle.rules.specs.Book.{Books}
 use Rattle.rules.specs.Store.{Store, Volume, decode, encodeInto, places, cardOf}
 use Rattle.rules.specs.Refusal.{Case, Result, Outcome, _when_, firstOf, result}
 use Rattle.rules.specs.Refusal.Refusal.{wrong-length, broken-rule, card-exists, bad-time, no-card-place}

@@ -2,14 +2,13 @@
 -- Assumes nothing.
 use mathlib.Core.List.{List, [], _∷_, _++_}
 use mathlib.Core.Bool.{Bool, _&&_}
-use mathlib.Core.Option.{Option}
+use mathlib.Core.Option.{Option, none, some}
 use Prim.Native.Nat.{ℕ, _+_, _-_, _*_, _^_, min}
 use lib.Dec.{eqb, leb, ltb}
 use lib.ListN.{getD}
 use Rattle.rules.specs.Lists.{find, maybe, pairBefore}
 use Rattle.rules.specs.Sizes.{blockBytes, mostExtent}
 use Rattle.rules.specs.Bytes.{be, le, beDigits, leDigits, part, allZero}
-use mathlib.Core.Option.{none, some}
 
 -- count blocks of object's file, from its block logical on, stand at the device's blocks from physical on
 pub record Extent : Type 0 where

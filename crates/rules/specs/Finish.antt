@@ -1,11 +1,10 @@
 -- Document 01, "Books": what the rewritten units of a call leave of the books, the maps and the image.
 -- Assumes nothing.
-use mathlib.Core.List.{List, [], _∷_, _++_, map, flatMap, zipWith}
-use mathlib.Core.Bool.{Bool, true, false, not, _&&_, _||_}
+use mathlib.Core.List.{List, [], _∷_, _++_, map, flatMap}
+use mathlib.Core.Bool.{Bool, not, _&&_, _||_}
 use mathlib.Core.Option.{Option, none, some}
 use Prim.Native.Nat.{ℕ, suc, _+_, _-_, _*_, _/_, _%_, min, max}
 use lib.Dec.{eqb, ltb}
-use lib.ListN.{length}
 use Rattle.rules.specs.Lists.{if_then_else_, any, filter, insert, member}
 use Rattle.rules.specs.Sizes.{blockBytes, unitBlocks, groupUnits}
 use Rattle.rules.specs.Bytes.{part, patch, padded}

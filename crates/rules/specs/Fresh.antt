@@ -1,10 +1,9 @@
 -- The call fresh.
 -- Assumes nothing.
 use mathlib.Core.List.{List, [], _∷_}
-use mathlib.Core.Bool.{Bool, false}
+use mathlib.Core.Bool.{false}
 use Prim.Native.Nat.{ℕ}
 use lib.Dec.{ltb}
-use Rattle.rules.specs.Book.{Books}
 use Rattle.rules.specs.Store.{Store, Volume, encodeInto, imageBlocks}
 use Rattle.rules.specs.Refusal.{Result, Outcome, _when_, firstOf, result}
 use Rattle.rules.specs.Refusal.Refusal.{wrong-length}

@@ -1,14 +1,14 @@
 -- Document 01, "Group": the checksums of 256 units of a file. Made by `set_checksum_slot`, read by `checksum_slot`.
 -- Assumes nothing.
 use mathlib.Core.List.{List, [], _∷_, _++_, map, flatMap, zipWith}
-use mathlib.Core.Bool.{Bool, _&&_, _||_}
+use mathlib.Core.Bool.{Bool, _||_}
 use mathlib.Core.Option.{Option, none, some}
-use Prim.Native.Nat.{ℕ, zero, suc, _+_, _*_}
+use Prim.Native.Nat.{ℕ, suc}
 use lib.Dec.{eqb}
-use lib.ListN.{length, take, drop, getD, set, replicate}
+use lib.ListN.{take, drop, getD, set, replicate}
 use Rattle.rules.specs.Lists.{if_then_else_, maybe, given, range, all, pairBefore}
 use Rattle.rules.specs.Sizes.{groupUnits}
-use Rattle.rules.specs.Bytes.{be, le, beDigits, leDigits, part, bitSet, bitBytes}
+use Rattle.rules.specs.Bytes.{be, le, beDigits, leDigits, part, pieces, bitSet, bitBytes}
 
 -- the checksums of object's units from number * 256 on, each present or not
 pub record Group : Type 0 where
@@ -23,11 +23,6 @@ groupBytes = 1073
 -- "`group_key` (as above with byte 4 and the group number)"
 unfoldable pub groupKey : ℕ → ℕ → List ℕ
 groupKey object number = beDigits 8 object ++ (4 ∷ beDigits 8 number)
-
--- the first n pieces of w bytes each
-unfoldable pub pieces : ℕ → ℕ → List ℕ → List (List ℕ)
-pieces w zero bytes = []
-pieces w (suc n) bytes = take w bytes ∷ pieces w n (drop w bytes)
 
 -- "32 bytes of presence bits": slot n has bit n mod 8 of byte n div 8
 unfoldable pub presence : List (Option ℕ) → List ℕ

@@ -1,8 +1,8 @@
 -- Refusals 9 to 12, and what a unit that is read holds: `inspect_unit`.
 -- Assumes nothing.
-use mathlib.Core.List.{List, [], _∷_, map, flatMap, getLast?}
+use mathlib.Core.List.{List, [], map, flatMap, getLast?}
 use mathlib.Core.Bool.{Bool, not, _&&_}
-use mathlib.Core.Option.{Option, none, some}
+use mathlib.Core.Option.{Option, none}
 use Prim.Native.Nat.{ℕ, _+_, _-_, _*_, _/_, _%_}
 use lib.Dec.{eqb, ltb, leb}
 use lib.ListN.{take, drop}
@@ -10,7 +10,7 @@ use Rattle.rules.specs.Lists.{if_then_else_, maybe, given, range, all, f
 use Rattle.rules.specs.Sizes.{blockBytes, unitBlocks, groupUnits}
 use Rattle.rules.specs.Bytes.{allZero}
 use Rattle.rules.specs.Extent.{Extent, extentEnd, mapping}
-use Rattle.rules.specs.Group.{Group, checksumSlot}
+use Rattle.rules.specs.Group.{checksumSlot}
 use Rattle.rules.specs.Checksum.{unitChecksum}
 use Rattle.rules.specs.Store.{Volume, blockAt}
 use Rattle.rules.specs.Refusal.{Refusal}

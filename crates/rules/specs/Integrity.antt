@@ -1,20 +1,19 @@
 -- Refusal 2: "A book or map (not for fresh) breaks a rule". Two tests, of the books and of the maps; each names its rules in document 01's order.
 -- Assumes nothing.
-use mathlib.Core.List.{List, _∷_, [], flatMap, map}
+use mathlib.Core.List.{List, flatMap, map}
 use mathlib.Core.Bool.{Bool, not, _&&_, _||_}
-use mathlib.Core.Option.{Option}
 use Prim.Native.Nat.{ℕ, _+_, _*_, _-_}
 use lib.Dec.{eqb, ltb, leb}
 use lib.ListN.{length}
 use Rattle.rules.specs.Lists.{all, any, range, ascending, begun}
 use Rattle.rules.specs.Sizes.{blockBytes, nanosecondsBound}
-use Rattle.rules.specs.Bytes.{bitSet}
+use Rattle.rules.specs.Bytes.{pieces, bitSet}
 use Rattle.rules.specs.Head.{Head, decodeHead}
 use Rattle.rules.specs.Card.{Card, cardBytes, cardSpareZero, cardBefore}
 use Rattle.rules.specs.Extent.{Extent, extentBytes, extentFixed, extentBefore, extentEnd}
-use Rattle.rules.specs.Group.{Group, groupBytes, groupFixed, absentZero, groupBefore, pieces}
+use Rattle.rules.specs.Group.{groupBytes, groupFixed, absentZero, groupBefore}
 use Rattle.rules.specs.Book.{Books, zeroBehind}
-use Rattle.rules.specs.Store.{Store, Volume, decode, decodeBooks, imageBlocks}
+use Rattle.rules.specs.Store.{Store, Volume, decode, decodeBooks}
 
 -- "order": ascending is strict, so that no key stands twice
 unfoldable pub ordered : Books → Bool

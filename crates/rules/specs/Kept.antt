@@ -6,9 +6,9 @@ use mathlib.Core.List.{List, [], _∷_, map}
 use mathlib.Core.Bool.{Bool, true, false, not, _&&_}
 use mathlib.Core.Option.{Option, none, some}
 use Prim.Native.Nat.{ℕ, suc, _+_, _*_, min}
-use lib.Dec.{eqb, ltb, leb}
+use lib.Dec.{eqb, leb}
 use lib.ListN.{length, getD, replicate}
-use Rattle.rules.specs.Lists.{if_then_else_, given, range, filter, count, begun}
+use Rattle.rules.specs.Lists.{if_then_else_, given, range, count, begun}
 use Rattle.rules.specs.Sizes.{blockBytes, unitBytes}
 use Rattle.rules.specs.Units.{Change, validLength, writtenIn}
 

@@ -1,7 +1,7 @@
 -- Choices, tests and lists: the words in which the rules are written. Nothing here is document 01's.
 -- Assumes nothing.
-use mathlib.Core.List.{List, [], _∷_, _++_, head?}
-use mathlib.Core.Bool.{Bool, true, false, not, _&&_, _||_}
+use mathlib.Core.List.{List, [], _∷_, head?}
+use mathlib.Core.Bool.{Bool, true, false, _&&_, _||_}
 use mathlib.Core.Option.{Option, none, some}
 use Prim.Native.Nat.{ℕ, zero, suc, _+_, _/_, _-_}
 use lib.Dec.{eqb, ltb}

@@ -1,9 +1,8 @@
 -- The call read.
 -- Assumes nothing.
 use mathlib.Core.List.{List, [], _∷_, _++_}
-use mathlib.Core.Bool.{Bool, _||_}
-use Prim.Native.Nat.{ℕ, _+_, _-_, _*_, _%_, min}
-use lib.Dec.{eqb, leb}
+use Prim.Native.Nat.{ℕ, _+_, _-_, _%_, min}
+use lib.Dec.{eqb}
 use lib.ListN.{length, drop, replicate}
 use Rattle.rules.specs.Lists.{if_then_else_}
 use Rattle.rules.specs.Sizes.{unitBytes, mostTransfer}

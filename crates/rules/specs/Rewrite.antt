@@ -1,7 +1,7 @@
 -- Document 01: what `rewrite_unit` makes of each unit of a change, and refusals 9 to 14 "unit by unit, ascending; the first found is given".
 -- Assumes nothing.
 use mathlib.Core.List.{List, [], _∷_, _++_}
-use mathlib.Core.Bool.{Bool, true, false, not, _&&_, _||_}
+use mathlib.Core.Bool.{Bool, true, false, _||_}
 use mathlib.Core.Option.{Option}
 use Prim.Native.Nat.{ℕ, _+_, _-_}
 use lib.Dec.{ltb}

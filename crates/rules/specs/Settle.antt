@@ -1,7 +1,7 @@
 -- The calls settle and fill.
 -- Assumes nothing.
-use mathlib.Core.List.{List, [], _∷_}
-use mathlib.Core.Bool.{Bool, false, not, _&&_}
+use mathlib.Core.List.{[]}
+use mathlib.Core.Bool.{false, not, _&&_}
 use Prim.Native.Nat.{ℕ, _*_, _/_}
 use Rattle.rules.specs.Lists.{count, range}
 use Rattle.rules.specs.Store.{Store, Volume, decode, encodeInto}

@@ -1,6 +1,6 @@
 -- Document 01, "Block": the sizes of what a store is made of, and the limits of a call.
 -- Assumes nothing.
-use Prim.Native.Nat.{ℕ, _^_, _-_}
+use Prim.Native.Nat.{ℕ}
 
 -- "Block. 4,096 bytes."
 abbrev pub blockBytes : ℕ

@@ -11,8 +11,8 @@ use Rattle.rules.specs.Sizes.{blockBytes}
 use Rattle.rules.specs.Bytes.{part, bitSet, Bytes}
 use Rattle.rules.specs.Head.{Head, decodeHead, encodeHead}
 use Rattle.rules.specs.Card.{Card, cardBytes, decodeCard, encodeCard}
-use Rattle.rules.specs.Extent.{Extent, extentBytes, decodeExtent, encodeExtent}
-use Rattle.rules.specs.Group.{Group, groupBytes, decodeGroup, encodeGroup}
+use Rattle.rules.specs.Extent.{extentBytes, decodeExtent, encodeExtent}
+use Rattle.rules.specs.Group.{groupBytes, decodeGroup, encodeGroup}
 use Rattle.rules.specs.Map.{encodeMap}
 use Rattle.rules.specs.Book.{Books, decodeBook, encodeBook}
 

@@ -1,7 +1,6 @@
 -- The calls write and grow: "Both change their units by `rewrite_unit`."
 -- Assumes nothing.
 use mathlib.Core.List.{List, [], _∷_}
-use mathlib.Core.Bool.{Bool}
 use Prim.Native.Nat.{ℕ, _+_}
 use lib.Dec.{eqb, ltb}
 use lib.ListN.{length}
@@ -11,14 +10,14 @@ use Rattle.rules.specs.Card.{Card}
 use Rattle.rules.specs.Extent.{extentBytes}
 use Rattle.rules.specs.Group.{groupBytes}
 use Rattle.rules.specs.Store.{Store, Volume, decode, encodeInto, places, cardOf}
-use Rattle.rules.specs.Refusal.{Refusal, Case, Result, Outcome, _when_, firstOf, result}
+use Rattle.rules.specs.Refusal.{Case, Result, Outcome, _when_, firstOf, result}
 use Rattle.rules.specs.Refusal.Refusal.{wrong-length, broken-rule, no-card, past-limit, below-size, bad-time, no-group-place, no-extent-place}
 use Rattle.rules.specs.Refusal.Outcome.{refuse, accept}
 use Rattle.rules.specs.Lengths.{lengthWrong}
 use Rattle.rules.specs.Integrity.{ruleBroken}
 use Rattle.rules.specs.Enter.{timeWrong}
-use Rattle.rules.specs.Units.{Change, changeEnd, clipped, writeChange, growChange, writeUnits, growUnits}
-use Rattle.rules.specs.Rewrite.{Rewritten, Progress, Plan, rewriteUnits}
+use Rattle.rules.specs.Units.{Change, clipped, writeChange, growChange, writeUnits, growUnits}
+use Rattle.rules.specs.Rewrite.{Plan, rewriteUnits}
 use Rattle.rules.specs.Rewrite.Plan.{refused, planned}
 use Rattle.rules.specs.Finish.{finished}
 
