@@ -17,10 +17,11 @@ allocationGroups blocks = begun blocks groupBlocks
 unfoldable pub groupOrder : ℕ → ℕ → List ℕ
 groupOrder groups hint = map (λ i. (hint % groups + i) % groups) (range 0 groups)
 
--- where a group starts and ends
+-- a group's first block
 unfoldable pub groupStart : ℕ → ℕ
 groupStart group = group * groupBlocks
 
+-- the block after its last: the last group may be shorter
 unfoldable pub groupEnd : ℕ → ℕ → ℕ
 groupEnd blocks group = min (groupStart group + groupBlocks) blocks
 

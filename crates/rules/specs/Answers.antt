@@ -23,42 +23,46 @@ unfoldable pub outcomeNumber : Outcome → ℕ
 outcomeNumber (refuse r) = numberOf r
 outcomeNumber (accept n left out) = 0
 
--- a unit that was read: 9 to 12, or 0; its valid bytes, of which a hole has none of its own
+-- a unit that was read: 9 to 12, or 0
 unfoldable pub inspectedNumber : Inspected → ℕ
 inspectedNumber (damaged r) = numberOf r
 inspectedNumber hole = 0
 inspectedNumber (checked xs) = 0
 
+-- its valid bytes; a hole has none of its own
 unfoldable pub inspectedBytes : Inspected → Option (List ℕ)
 inspectedBytes (damaged r) = none
 inspectedBytes hole = none
 inspectedBytes (checked xs) = some xs
 
--- a unit that was to be rewritten: 9 to 14, or 0; what it becomes, of which an untouched hole has nothing
+-- a unit that was to be rewritten: 9 to 14, or 0
 unfoldable pub stepNumber : Step → ℕ
 stepNumber (stopped r) = numberOf r
 stepNumber untouched = 0
 stepNumber (rewritten r) = 0
 
+-- what it becomes; an untouched hole becomes nothing
 unfoldable pub stepUnit : Step → Option Rewritten
 stepUnit (stopped r) = none
 stepUnit untouched = none
 stepUnit (rewritten r) = some r
 
--- all units of a change: the number of the first refusal, or 0; the rewritten units
+-- all units of a change: the number of the first refusal, or 0
 unfoldable pub planNumber : Plan → ℕ
 planNumber (refused r) = numberOf r
 planNumber (planned rs p) = 0
 
+-- the rewritten units
 unfoldable pub planUnits : Plan → List Rewritten
 planUnits (refused r) = []
 planUnits (planned rs p) = rs
 
--- all units of a read: the number of the first refusal, or 0; their valid bytes
+-- all units of a read: the number of the first refusal, or 0
 unfoldable pub checkedNumber : Checked → ℕ
 checkedNumber (failed r) = numberOf r
 checkedNumber (bytes xs) = 0
 
+-- their valid bytes
 unfoldable pub checkedBytes : Checked → List ℕ
 checkedBytes (failed r) = []
 checkedBytes (bytes xs) = xs

@@ -12,6 +12,7 @@ use Rattle.rules.specs.Read.{readOutcome}
 use Rattle.rules.specs.Settle.{settleOutcome, fillOutcome}
 use Rattle.rules.specs.Sizes.{mostRuns}
 
+-- "fresh, enter (a new file), write, grow, read, settle, fill"; a read lends its output buffer
 pub data Call : Type 0 where
   fresh : (uuid : List ℕ) (reserved : ℕ) → Call
   enter : (object seconds nanoseconds : ℕ) → Call

@@ -1,37 +1,23 @@
 -- The call enter: a new file.
 -- Assumes nothing.
 use mathlib.Core.List.{List, [], _∷_}
-use mathlib.Core.Bool.{Bool, _||_}
 use Prim.Native.Nat.{ℕ}
-use lib.Dec.{ltb, leb}
-use lib.ListN.{length}
-use Rattle.rules.specs.Lists.{given, insert}
-use Rattle.rules.specs.Sizes.{mostSeconds, nanosecondsBound}
-use Rattle.rules.specs.Card.{Card, cardBytes, cardBefore}
-use Rattle.rules.specs.Store.{Store, Volume, decode, encodeInto, places, cardOf}
+use Rattle.rules.specs.Lists.{insert}
+use Rattle.rules.specs.Card.{Card, cardBefore}
+use Rattle.rules.specs.Store.{Store, Volume, decode, encodeInto}
 use Rattle.rules.specs.Refusal.{Case, Result, Outcome, _when_, firstOf, result}
 use Rattle.rules.specs.Refusal.Refusal.{wrong-length, broken-rule, card-exists, bad-time, no-card-place}
 use Rattle.rules.specs.Refusal.Outcome.{accept}
 use Rattle.rules.specs.Lengths.{lengthWrong}
 use Rattle.rules.specs.Integrity.{ruleBroken}
-
--- 7: "seconds above 9,223,372,036,854,775,807 or nanoseconds 1,000,000,000 or more"
-unfoldable pub timeWrong : ℕ → ℕ → Bool
-timeWrong seconds nanoseconds = ltb mostSeconds seconds || leb nanosecondsBound nanoseconds
-
--- 4: "Enter names an object that has one."
-unfoldable pub hasCard : Volume → ℕ → Bool
-hasCard v object = given (cardOf v object)
-
--- 8: "Enter finds no free card place."
-unfoldable pub cardsFull : Volume → Store → Bool
-cardsFull v s = leb (places cardBytes (s .cards)) (length (v .books .cards))
+use Rattle.rules.specs.Arguments.{hasCard, timeWrong, cardsFull}
 
 -- "Enter adds a card of size 0 with no blocks and the lent time."
 unfoldable pub newCard : ℕ → ℕ → ℕ → Card
 newCard object seconds nanoseconds =
     record { object = object; size = 0; allocated = 0; seconds = seconds; nanoseconds = nanoseconds }
 
+-- the volume with it
 unfoldable pub entered : Card → Volume → Volume
 entered c v = record {
   uuid = v .uuid;

@@ -17,18 +17,20 @@ use Rattle.rules.specs.Rewrite.{Rewritten, Progress}
 
 -- ---- the extents
 
--- an extent's part before its block, and its part from its block on
+-- an extent's part before one of its blocks
 unfoldable pub upTo : Extent → ℕ → Extent
 upTo e block = record { object = e .object; logical = e .logical; physical = e .physical; count = block - e .logical }
 
+-- its part from one of its blocks on
 unfoldable pub from : Extent → ℕ → Extent
 from e block =
     record { object = e .object; logical = block; physical = e .physical + (block - e .logical); count = extentEnd e - block }
 
--- what an extent has before a block of its file, and what it has from a block on: nothing, a part of it, or all
+-- what an extent has before a block of its file: nothing, a part of it, or all
 unfoldable pub partBefore : Extent → ℕ → List Extent
 partBefore e block = if ltb (e .logical) block then upTo e (min (extentEnd e) block) ∷ [] else []
 
+-- what it has from a block of its file on
 unfoldable pub partFrom : Extent → ℕ → List Extent
 partFrom e block = if ltb block (extentEnd e) then from e (max (e .logical) block) ∷ [] else []
 
@@ -109,10 +111,11 @@ finishedCards c allocated seconds nanoseconds cs =
 
 -- ---- the maps and the image
 
--- all new blocks of the call, and all superseded ones
+-- all new blocks of the call
 unfoldable pub newBlocks : List Rewritten → List ℕ
 newBlocks rs = flatMap (λ r. r .new) rs
 
+-- all superseded ones
 unfoldable pub supersededBlocks : List Rewritten → List ℕ
 supersededBlocks rs = flatMap (λ r. r .superseded) rs
 

@@ -13,6 +13,7 @@ pub mod Store
 pub mod Refusal
 pub mod Lengths
 pub mod Integrity
+pub mod Arguments
 pub mod Units
 pub mod Inspect
 pub mod Kept

@@ -50,6 +50,7 @@ pub record Case : Type 0 where
   pub holds : Bool
 
 infixr 20 _when_
+-- the refusal, when the test passes
 abbrev pub _when_ : Refusal → Bool → Case
 r when b = record { refusal = r; holds = b }
 

@@ -10,6 +10,7 @@ blockBytes = 4096
 abbrev pub unitBlocks : ℕ
 unitBlocks = 16
 
+-- the same in bytes
 abbrev pub unitBytes : ℕ
 unitBytes = 65536
 

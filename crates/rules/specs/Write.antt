@@ -1,11 +1,12 @@
 -- The calls write and grow: "Both change their units by `rewrite_unit`."
 -- Assumes nothing.
 use mathlib.Core.List.{List, [], _∷_}
+use mathlib.Core.Bool.{Bool}
 use Prim.Native.Nat.{ℕ, _+_}
 use lib.Dec.{eqb, ltb}
 use lib.ListN.{length}
 use Rattle.rules.specs.Lists.{if_then_else_, maybe}
-use Rattle.rules.specs.Sizes.{mostSize, mostRuns}
+use Rattle.rules.specs.Sizes.{mostRuns}
 use Rattle.rules.specs.Card.{Card}
 use Rattle.rules.specs.Extent.{extentBytes}
 use Rattle.rules.specs.Group.{groupBytes}
@@ -15,7 +16,7 @@ use Rattle.rules.specs.Refusal.Refusal.{wrong-length, broken-rule, no-ca
 use Rattle.rules.specs.Refusal.Outcome.{refuse, accept}
 use Rattle.rules.specs.Lengths.{lengthWrong}
 use Rattle.rules.specs.Integrity.{ruleBroken}
-use Rattle.rules.specs.Enter.{timeWrong}
+use Rattle.rules.specs.Arguments.{pastLimit, belowSize, timeWrong}
 use Rattle.rules.specs.Units.{Change, clipped, writeChange, growChange, writeUnits, growUnits}
 use Rattle.rules.specs.Rewrite.{Plan, rewriteUnits}
 use Rattle.rules.specs.Rewrite.Plan.{refused, planned}
@@ -29,12 +30,17 @@ storeCases s = (wrong-length when lengthWrong s) ∷ (broken-rule when ruleBroke
 unfoldable pub withCard : Volume → ℕ → (Card → Outcome) → Outcome
 withCard v object next = maybe (refuse no-card) next (cardOf v object)
 
--- 15 and 16: "The finished group book would not fit.", "The finished extent book would not fit."
+-- 15: "The finished group book would not fit."
+unfoldable pub groupsFull : Volume → Store → Bool
+groupsFull v s = ltb (places groupBytes (s .groups)) (length (v .books .groups))
+
+-- 16: "The finished extent book would not fit."
+unfoldable pub extentsFull : Volume → Store → Bool
+extentsFull v s = ltb (places extentBytes (s .extents)) (length (v .books .extents))
+
+-- the two in their order, for a finished volume
 unfoldable pub fitCases : Volume → Store → List Case
-fitCases v s =
-    (no-group-place when ltb (places groupBytes (s .groups)) (length (v .books .groups)))
-    ∷ (no-extent-place when ltb (places extentBytes (s .extents)) (length (v .books .extents)))
-    ∷ []
+fitCases v s = (no-group-place when groupsFull v s) ∷ (no-extent-place when extentsFull v s) ∷ []
 
 -- the planned units carried out, or the refusal of one of them
 unfoldable pub carriedOut : ℕ → Change → ℕ → ℕ → Store → Plan → Outcome
@@ -55,7 +61,7 @@ unfoldable pub writeFile : ℕ → ℕ → List ℕ → ℕ → ℕ → Store �
 writeFile limit offset bytes seconds nanoseconds s card =
     if eqb (length bytes) 0 then accept 0 s []
     else firstOf
-    ((past-limit when ltb mostSize (offset + length (clipped bytes))) ∷ (bad-time when timeWrong seconds nanoseconds) ∷ [])
+    ((past-limit when pastLimit (offset + length (clipped bytes))) ∷ (bad-time when timeWrong seconds nanoseconds) ∷ [])
     (changed limit (length (clipped bytes)) writeUnits (writeChange (card .object) (card .size) offset bytes) card seconds nanoseconds s)
 
 -- what becomes of a write; the limit of runs is a parameter
@@ -71,7 +77,7 @@ write object offset bytes seconds nanoseconds s = result s [] (writeOutcome most
 -- 5: "or grow asks for more than that"; 6: "Grow asks for less than the present size."; 7 for "a grow that changes the size"
 unfoldable pub growFile : ℕ → ℕ → ℕ → Store → Card → Outcome
 growFile size seconds nanoseconds s card =
-    firstOf ((past-limit when ltb mostSize size) ∷ (below-size when ltb size (card .size)) ∷ [])
+    firstOf ((past-limit when pastLimit size) ∷ (below-size when belowSize size card) ∷ [])
     (if eqb size (card .size) then accept 0 s []
     else firstOf ((bad-time when timeWrong seconds nanoseconds) ∷ [])
     (changed mostRuns 0 growUnits (growChange (card .object) (card .size) size) card seconds nanoseconds s))
