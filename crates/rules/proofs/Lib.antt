@@ -11,6 +11,7 @@ pub mod KeyLaws
 pub mod ExtentLaws
 pub mod GroupLaws
 pub mod StoreLaws
+pub mod DivisionLaws
 pub mod Crc
 pub mod Cases
 pub mod Refused
