@@ -1,0 +1,5 @@
+pub mod XorLaws
+pub mod RegisterLaws
+pub mod Division
+pub mod TableRule
+pub mod Running

@@ -1,0 +1,71 @@
+use Rattle.words.proofs.FieldLaws.{head-words}
+use borrow.Author.Needs.{needs}
+use Rattle.words.proofs.field.head_words.Statement.{statement}
+use Rattle.words.proofs.field.head_words.Tie as tie
+use Rattle.words.proofs.field.head_words.Reads as reads
+use Rattle.words.proofs.field.head_words.Lts as lts
+
+-- src/field.rt:97:13
+mul-t2 : tie.Need-mul-t2
+mul-t2 c = search needs
+
+-- src/field.rt:98:15
+mul-t3 : tie.Need-mul-t3
+mul-t3 c = search needs
+
+-- src/field.rt:97:13
+add-t4 : tie.Need-add-t4
+add-t4 c = search needs
+
+-- src/field.rt:99:15
+mul-t5 : tie.Need-mul-t5
+mul-t5 c = search needs
+
+-- src/field.rt:97:13
+add-t6 : tie.Need-add-t6
+add-t6 c = search needs
+
+-- src/field.rt:100:15
+mul-t7 : tie.Need-mul-t7
+mul-t7 c = search needs
+
+-- src/field.rt:97:13
+add-t8 : tie.Need-add-t8
+add-t8 c = search needs
+
+-- src/field.rt:97:13
+add-t10 : tie.Need-add-t10
+add-t10 c = search needs
+
+-- src/field.rt:102:14
+mul-t12 : tie.Need-mul-t12
+mul-t12 c = search needs
+
+-- src/field.rt:102:14
+add-t13 : tie.Need-add-t13
+add-t13 c = search needs
+
+-- src/field.rt:102:13
+cast-t14 : tie.Need-cast-t14
+cast-t14 c = search needs
+
+-- src/field.rt:92:1
+returns : tie.Need-returns
+returns c = head-words _ _ _ _ _ _
+
+pub head-words-spec : {M : Type 1} → statement M
+head-words-spec =
+    tie.close
+    (tie.spec
+    mul-t2
+    mul-t3
+    add-t4
+    mul-t5
+    add-t6
+    mul-t7
+    add-t8
+    add-t10
+    mul-t12
+    add-t13
+    cast-t14
+    returns)
