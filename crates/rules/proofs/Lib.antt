@@ -15,3 +15,8 @@ pub mod DivisionLaws
 pub mod Crc
 pub mod Cases
 pub mod Refused
+pub mod PassLaws
+pub mod OutcomeLaws
+pub mod FreshLaws
+pub mod EnterLaws
+pub mod SettleLaws

@@ -1,0 +1,151 @@
+-- The store that an accepted settle leaves: it passes refusals 1 and 2, and says the volume with no block retired. And the calls that leave the
+-- store itself: fill, read, an empty write, and a grow to the size that there is.
+-- Assumes nothing.
+use mathlib.Core.Path.{_≡_, refl, ap, _∙_}
+use mathlib.Core.List.{List, []}
+use mathlib.Core.Bool.{Bool, true, not, _&&_, and-true}
+use mathlib.Core.Option.{some}
+use Prim.Native.Nat.{ℕ}
+use lib.Dec.{eqb, leb}
+use lib.ListN.{length}
+use borrow.Author.Tests.{eq-eqb}
+use Rattle.rules.specs.Lists.{range}
+use Rattle.rules.specs.Bytes.{Bytes}
+use Rattle.rules.specs.Card.{Card}
+use Rattle.rules.specs.Store.{Store, StoreBytes, Volume, decode, decodeWith, headOf, encodeInto, cardOf}
+use Rattle.rules.specs.Refusal.{Case, Outcome, firstOf, result}
+use Rattle.rules.specs.Integrity.{mappedBlocks, mappedRight, reservedRight, retiredRight}
+use Rattle.rules.specs.Write.{storeCases, withCard, writeFile, writeOutcome, growFile, growOutcome}
+use Rattle.rules.specs.Read.{Checked, readLength, handOut, readUnits, readFile, readOutcome}
+use Rattle.rules.specs.Read.Checked.{failed, bytes}
+use Rattle.rules.specs.Settle.{settled, settleOutcome, fillOutcome}
+use Rattle.rules.specs.Call.{call, lentOut, outcome}
+use Rattle.rules.specs.Call.Call.{settle, fill, read, write, grow}
+use Rattle.rules.proofs.ListLaws.{if-cases, if-true, maybe-cases, all-weaken, all-range-of, each-any}
+use Rattle.rules.proofs.StoreLaws.{VolumeFits}
+use Rattle.rules.proofs.PassLaws.{Passes, Lawful, Room, lawful-decode, room-decode, decode-fits, Says, says-encodeInto}
+use Rattle.rules.proofs.OutcomeLaws.{NoneHolds, through, firstOf-cases}
+
+-- ---- the retired blocks let go
+
+module _ (v : Volume) where
+  -- the volume stays lawful
+  pub settled-lawful : Lawful v → Lawful (settled v)
+  unfolding settled mappedRight reservedRight retiredRight
+  settled-lawful l = record {
+    order = l .order;
+    times = l .times;
+    filled = l .filled;
+    apart = l .apart;
+    device = l .device;
+    files = l .files;
+    mapped = all-weaken (λ n. (v .used n && not (v .retired n)) && true && leb (v .reserved) n) (λ n. v .used n && not (v .retired n) && leb (v .reserved) n)
+        (mappedBlocks (v .books .extents)) (λ n h. ap (λ (b : Bool). b && leb (v .reserved) n) (and-true (v .used n && not (v .retired n))) ∙ h) (l .mapped);
+    reserved = all-weaken (λ n. (v .used n && not (v .retired n)) && true) (λ n. v .used n && not (v .retired n))
+        (range 0 (v .reserved)) (λ n h. and-true (v .used n && not (v .retired n)) ∙ h) (l .reserved);
+    retired = all-range-of (λ n. true) 0 (v .blocks) (λ i m. refl);
+    usedPast = λ n m. ap (λ (b : Bool). b && not (v .retired n)) (l .usedPast n m);
+    retiredPast = λ n m. refl;
+  }
+
+  -- its numbers stay in range
+  pub settled-fits : VolumeFits v → VolumeFits (settled v)
+  unfolding settled headOf
+  settled-fits f = record {
+    head = f .head;
+    cards = f .cards;
+    extents = f .extents;
+    groups = f .groups;
+    used = λ n m. ap (λ (b : Bool). b && not (v .retired n)) (f .used n m);
+    retired = λ n m. refl;
+  }
+
+  -- there is room for it
+  pub settled-room : (s : Store) → Room s v → Room s (settled v)
+  unfolding settled
+  settled-room s r = record {
+    buffers = r .buffers;
+    blocks = r .blocks;
+    image = r .image;
+    reserved = r .reserved;
+    cards = r .cards;
+    extents = r .extents;
+    groups = r .groups;
+  }
+
+-- ---- the call
+
+-- where refusals 1 and 2 do not come the store passes
+pub store-passes : (s : Store) → NoneHolds (storeCases s) → Passes s
+unfolding storeCases
+store-passes s n = record { lengths = n .0; rules = n .1 .0 }
+
+-- settle's tests pass, and it leaves the buffers that say the settled volume
+pub record SettleAccepted (s : Store) : Type 0 where
+  pub passes : Passes s
+  pub store : call settle s .store ≡ encodeInto s (settled (decode s))
+
+-- so it is with an accepted one
+pub settle-accepted : (s : Store) → call settle s .number ≡ 0 → SettleAccepted s
+unfolding call outcome lentOut settleOutcome result
+settle-accepted s e =
+    let t = through s [] (storeCases s) _ e in
+    record { passes = store-passes s (t .none); store = ap (λ o. result s [] o .store) (t .goesOn) }
+
+-- the store that an accepted settle leaves is one of bytes, passes refusals 1 and 2, and says the settled volume
+pub settle-says : (s : Store) → StoreBytes s → call settle s .number ≡ 0 → Says (call settle s .store) (settled (decode s))
+settle-says s b e =
+    let a : SettleAccepted s = settle-accepted s e in
+    let v : Volume = decode s in
+    let p : Passes s = a .passes in
+    let m : Bytes (settled v .image) = unfold settled decode decodeWith in b .image in
+    rw (a .store) (says-encodeInto s (settled v) (settled-room v s (room-decode s p)) (settled-fits v (decode-fits s p b)) (settled-lawful v (lawful-decode s p)) m)
+
+-- ---- calls that leave the store
+
+-- what becomes of the call leaves the store itself
+abbrev Stays : Store → List ℕ → Outcome → Type 0
+Stays s out o = result s out o .store ≡ s
+
+-- whatever tests come first
+first-stays : (s : Store) (out : List ℕ) (cases : List Case) (o : Outcome) → Stays s out o → Stays s out (firstOf cases o)
+unfolding result
+first-stays s out cases o h = firstOf-cases (Stays s out) o (each-any (λ c e. refl) cases) (λ n. h)
+
+-- and whether there is a card
+card-stays : (s : Store) (out : List ℕ) (object : ℕ) (next : Card → Outcome) → ((c : Card) → cardOf (decode s) object ≡ some c → Stays s out (next c))
+    → Stays s out (withCard (decode s) object next)
+unfolding result withCard
+card-stays s out object next h = maybe-cases (Stays s out) _ next (cardOf (decode s) object) (λ e. refl) h
+
+-- fill
+pub fill-stays : (s : Store) → call fill s .store ≡ s
+unfolding call outcome lentOut fillOutcome result
+fill-stays s = first-stays s [] (storeCases s) _ refl
+
+-- bytes handed out
+hand-stays : (at n : ℕ) (s : Store) (out : List ℕ) (c : Checked) → Stays s out (handOut at n s out c)
+unfolding handOut result
+hand-stays at n s out (failed r) = refl
+hand-stays at n s out (bytes xs) = refl
+
+-- read
+pub read-stays : (object offset : ℕ) (out : List ℕ) (s : Store) → call (read object offset out) s .store ≡ s
+unfolding call outcome lentOut readOutcome readFile readUnits result
+read-stays object offset out s =
+    first-stays s out (storeCases s) _ (card-stays s out object _ (λ c e.
+    if-cases (Stays s out) (eqb (readLength (c .size) offset (length out)) 0) _ _ (λ q. refl) (λ q. hand-stays _ _ s out _)))
+
+-- a write of no bytes
+pub write-stays : (object offset : ℕ) (xs : List ℕ) (seconds nanoseconds : ℕ) (s : Store) → length xs ≡ 0
+    → call (write object offset xs seconds nanoseconds) s .store ≡ s
+unfolding call outcome lentOut writeOutcome writeFile result
+write-stays object offset xs seconds nanoseconds s h =
+    first-stays s [] (storeCases s) _ (card-stays s [] object _ (λ c e. rw (if-true (eqb (length xs) 0) _ _ (eq-eqb (length xs) 0 h)) refl))
+
+-- a grow to the size that there is
+pub grow-stays : (object size seconds nanoseconds : ℕ) (s : Store) → ((c : Card) → cardOf (decode s) object ≡ some c → size ≡ c .size)
+    → call (grow object size seconds nanoseconds) s .store ≡ s
+unfolding call outcome lentOut growOutcome growFile result
+grow-stays object size seconds nanoseconds s h =
+    first-stays s [] (storeCases s) _ (card-stays s [] object _ (λ c e. first-stays s [] _ _ (rw (if-true (eqb size (c .size)) _ _ (eq-eqb size (c .size) (h c e))) refl)))
