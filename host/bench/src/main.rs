@@ -1,0 +1,88 @@
+//! Measures the proved functions against plain Rust, in one run and as ratios. Both are built for release; every buffer is filled, and touched once,
+//! before it is timed.
+
+mod measure;
+mod plain;
+mod proved;
+
+use measure::{pair, speeds};
+use std::hint::black_box;
+use std::time::Duration;
+
+const ROUNDS: u32 = 5;
+const SPAN: Duration = Duration::from_millis(40);
+
+fn filled(len: usize) -> Vec<u8> {
+    let mut x = 0x9e37_79b9_7f4a_7c15u64;
+    (0..len)
+        .map(|_| {
+            x ^= x << 13;
+            x ^= x >> 7;
+            x ^= x << 17;
+            x as u8
+        })
+        .collect()
+}
+
+fn main() {
+    println!("{:<52} {:>8} {:>8}", "", "ours", "theirs");
+    crc();
+    ranges();
+}
+
+fn crc() {
+    let slicing = plain::SlicingBy8::new();
+    for (size, name) in [(4 << 10, "4 KiB"), (64 << 10, "64 KiB"), (1 << 20, "1 MiB")] {
+        let bytes = filled(size);
+        assert_eq!(proved::crc32c(&bytes), slicing.crc(&bytes));
+        let ours = || {
+            black_box(proved::crc32c(black_box(&bytes)));
+        };
+        let theirs = || {
+            black_box(slicing.crc(black_box(&bytes)));
+        };
+        speeds(
+            &format!("CRC-32C of {name}, and Rust's slicing by 8"),
+            size,
+            pair(ROUNDS, SPAN, ours, theirs),
+        );
+        if plain::crc_instruction(&bytes).is_some() {
+            let ours = || {
+                black_box(proved::crc32c(black_box(&bytes)));
+            };
+            let theirs = || {
+                black_box(plain::crc_instruction(black_box(&bytes)));
+            };
+            speeds(
+                &format!("CRC-32C of {name}, and the SSE4.2 instruction"),
+                size,
+                pair(ROUNDS, SPAN, ours, theirs),
+            );
+        }
+    }
+}
+
+fn ranges() {
+    for (size, name) in [(4 << 10, "4 KiB"), (64 << 10, "64 KiB"), (1 << 20, "1 MiB")] {
+        let (zeros, mut to, from) = (vec![0u8; size], vec![1u8; size], filled(size));
+        let mut other = to.clone();
+        assert!(proved::is_zero(&zeros) && !proved::is_zero(&from));
+        let ours = || {
+            black_box(proved::is_zero(black_box(&zeros)));
+        };
+        let theirs = || black_box(&mut other).copy_from_slice(black_box(&from));
+        speeds(
+            &format!("all zero, {name}, and memcpy"),
+            size,
+            pair(ROUNDS, SPAN, ours, theirs),
+        );
+        let ours = || proved::copy(black_box(&mut to), black_box(&from));
+        let theirs = || black_box(&mut other).copy_from_slice(black_box(&from));
+        speeds(
+            &format!("copy, {name}, and memcpy"),
+            size,
+            pair(ROUNDS, SPAN, ours, theirs),
+        );
+        assert_eq!(to, from);
+    }
+}

@@ -1,0 +1,263 @@
+//! The comparison: one history after another, both sides in step.
+
+use std::collections::BTreeMap;
+use std::fmt::Write;
+
+use model::{Answer, BLOCK_BYTES, Call, Store, Volume};
+use oracle::OracleAnswer;
+
+use crate::damage::{damage, split_all};
+use crate::differences::Difference;
+use crate::generate::{History, Profile, Step, crowd};
+
+/// The side that is held against the model: the oracle, or a library that
+/// answers in its stead.
+pub type Other<'a> = &'a dyn Fn(&mut Store, &Call) -> OracleAnswer;
+
+/// How two answers to one call on one store stand to each other.
+#[derive(Clone, Debug, PartialEq, Eq)]
+pub enum Verdict {
+    Agree,
+    Listed(Difference),
+    Part(String),
+}
+
+#[derive(Clone, Debug, Default)]
+pub struct Tally {
+    pub histories: u64,
+    pub calls: u64,
+    pub compared: u64,
+    /// Compared calls by name and the document's number.
+    pub answers: BTreeMap<(&'static str, u32), u64>,
+    pub listed: BTreeMap<Difference, u64>,
+    pub damages: BTreeMap<&'static str, u64>,
+    pub profiles: BTreeMap<Profile, u64>,
+}
+
+/// Two answers that part, with the store on which they do.
+#[derive(Debug)]
+pub struct Failure {
+    pub origin: String,
+    pub reason: String,
+    pub store: Store,
+    pub call: Call,
+}
+
+/// Images beyond this are compared whole at a history's end, and after each
+/// call only where a block became used.
+const WHOLE_IMAGE_BYTES: usize = 8 << 20;
+
+fn same_images(document: &Store, rust: &Store, used_before: &[u8]) -> bool {
+    if document.image.len() <= WHOLE_IMAGE_BYTES {
+        return document.image == rust.image;
+    }
+    let maps = document.used.iter().zip(&rust.used).zip(used_before);
+    maps.enumerate().all(|(byte, ((a, b), before))| {
+        let changed = (a ^ before) | (b ^ before);
+        (0..8).filter(|bit| changed >> bit & 1 == 1).all(|bit| {
+            let at = (byte * 8 + bit) * BLOCK_BYTES;
+            document.image[at..at + BLOCK_BYTES] == rust.image[at..at + BLOCK_BYTES]
+        })
+    })
+}
+
+fn verdict(
+    call: &Call,
+    store: &Store,
+    document: &Answer,
+    rust: &OracleAnswer,
+    same_store: bool,
+) -> Verdict {
+    let same_answer = rust.outcome.number() == Some(document.number)
+        && rust.outcome.count() == document.count
+        && rust.output == document.output;
+    if same_answer && same_store {
+        return Verdict::Agree;
+    }
+    // Every listed difference is a call that the document refuses, so the
+    // document's store still holds the card as it was.
+    let card = match call {
+        Call::Write { object, .. } | Call::Grow { object, .. } | Call::Read { object, .. } => {
+            let volume = Volume::decode(store);
+            volume.card(*object).copied()
+        }
+        _ => None,
+    };
+    match Difference::explains(call, card.as_ref(), document, rust, same_store) {
+        Some(difference) if document.number != 0 => Verdict::Listed(difference),
+        _ => {
+            let what = match (same_answer, same_store) {
+                (true, false) => "the stores part",
+                (false, true) => "the answers part",
+                _ => "answers and stores part",
+            };
+            Verdict::Part(format!(
+                "{what}: document {} count {}, other {:?}",
+                document.number, document.count, rust.outcome
+            ))
+        }
+    }
+}
+
+/// What both sides made of one call on copies of one store.
+pub struct Judged {
+    pub verdict: Verdict,
+    pub answer: Answer,
+    pub told: OracleAnswer,
+    /// The document's store after the call.
+    pub after: Store,
+}
+
+pub fn judge(store: &Store, call: &Call, other: Other<'_>) -> Judged {
+    let (mut after, mut right) = (store.clone(), store.clone());
+    let answer = model::run(&mut after, call);
+    let told = other(&mut right, call);
+    Judged {
+        verdict: verdict(call, &after, &answer, &told, after == right),
+        answer,
+        told,
+        after,
+    }
+}
+
+/// Run history `number` of `seed` through both sides.
+pub fn compare_history(
+    seed: u64,
+    number: u64,
+    other: Other<'_>,
+    tally: &mut Tally,
+) -> Result<(), Box<Failure>> {
+    let mut history = History::new(seed, number);
+    let (mut document, mut rust) = (history.blank(), history.blank());
+    *tally.profiles.entry(history.profile).or_default() += 1;
+    tally.histories += 1;
+    let mut step = 0;
+    while let Some(next) = history.next(&document) {
+        step += 1;
+        let call = match next {
+            Step::Call(call) => call,
+            Step::Crowd => {
+                crowd(&mut history.rng, &mut document);
+                rust.copy_records_from(&document);
+                continue;
+            }
+            Step::Split => {
+                split_all(&mut history.rng, &mut document);
+                rust.copy_records_from(&document);
+                continue;
+            }
+            Step::Damage => {
+                if let Some(damage) = damage(&mut history.rng, &mut document) {
+                    *tally.damages.entry(damage.name).or_default() += 1;
+                    rust.copy_records_from(&document);
+                    for (at, byte) in damage.image {
+                        rust.image[at] = byte;
+                    }
+                }
+                continue;
+            }
+        };
+        tally.calls += 1;
+        let used_before = document.used.clone();
+        let answer = model::run(&mut document, &call);
+        // A place that a damaged store shares may be kept and retired at
+        // once; every later call is then refused by 2 and says no more.
+        if answer.number == 2 {
+            break;
+        }
+        if !call.compared() {
+            rust.copy_records_from(&document);
+            continue;
+        }
+        let told = other(&mut rust, &call);
+        tally.compared += 1;
+        *tally
+            .answers
+            .entry((call.name(), answer.number))
+            .or_default() += 1;
+        let same_store =
+            document.records_equal(&rust) && same_images(&document, &rust, &used_before);
+        match verdict(&call, &document, &answer, &told, same_store) {
+            Verdict::Agree => {}
+            Verdict::Listed(difference) => {
+                *tally.listed.entry(difference).or_default() += 1;
+                if !same_store {
+                    rust.clone_from(&document);
+                }
+            }
+            Verdict::Part(reason) => {
+                let (store, call) = rebuild(seed, number, step);
+                return Err(Box::new(Failure {
+                    origin: format!("seed {seed} history {number} step {step}"),
+                    reason,
+                    store,
+                    call,
+                }));
+            }
+        }
+    }
+    if document.image != rust.image {
+        let (store, call) = rebuild(seed, number, step);
+        return Err(Box::new(Failure {
+            origin: format!("seed {seed} history {number}, at its end"),
+            reason: "a byte changed in a block that did not become used".into(),
+            store,
+            call,
+        }));
+    }
+    Ok(())
+}
+
+/// The store before a step of a history, and the step's call.
+pub fn rebuild(seed: u64, number: u64, step: usize) -> (Store, Call) {
+    let mut history = History::new(seed, number);
+    let mut store = history.blank();
+    let mut last = (store.clone(), Call::Fill);
+    for _ in 0..step {
+        match history.next(&store) {
+            None => break,
+            Some(Step::Crowd) => crowd(&mut history.rng, &mut store),
+            Some(Step::Split) => split_all(&mut history.rng, &mut store),
+            Some(Step::Damage) => {
+                damage(&mut history.rng, &mut store);
+            }
+            Some(Step::Call(call)) => {
+                let before = store.clone();
+                model::run(&mut store, &call);
+                last = (before, call);
+            }
+        }
+    }
+    last
+}
+
+impl Tally {
+    /// The numbers of a run, as a table.
+    pub fn report(&self) -> String {
+        let mut text = String::new();
+        let _ = writeln!(
+            text,
+            "{} histories, {} calls, {} of them compared",
+            self.histories, self.calls, self.compared
+        );
+        let _ = writeln!(text, "profiles: {:?}", self.profiles);
+        let _ = writeln!(text, "answers by the document's number:");
+        for name in ["write", "grow", "read"] {
+            let mut line = format!("  {name:5}");
+            for ((_, number), count) in self.answers.iter().filter(|((n, _), _)| *n == name) {
+                let _ = write!(line, "  {number}: {count}");
+            }
+            let _ = writeln!(text, "{line}");
+        }
+        let _ = writeln!(text, "damages:");
+        for (name, count) in &self.damages {
+            let _ = writeln!(text, "  {name}: {count}");
+        }
+        let _ = writeln!(text, "listed differences:");
+        for difference in Difference::ALL {
+            let count = self.listed.get(&difference).copied().unwrap_or(0);
+            let _ = writeln!(text, "  {difference:?}: {count}");
+        }
+        text
+    }
+}

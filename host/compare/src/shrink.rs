@@ -1,0 +1,255 @@
+//! Makes a case on which two sides part small and writes it out.
+
+use std::fmt::Write;
+use std::time::{Duration, Instant};
+
+use model::{BLOCK_BYTES, Call, Extent, Store, Volume, passes_refusals_1_and_2};
+
+/// Take away what the difference does not need: bytes, files, records, bits,
+/// image contents. `parts` says whether a candidate still shows it, `budget`
+/// how long the search may go on.
+pub fn minimise(
+    store: &Store,
+    call: &Call,
+    parts: &dyn Fn(&Store, &Call) -> bool,
+    budget: Duration,
+) -> (Store, Call) {
+    let mut best = (store.clone(), call.clone());
+    let started = Instant::now();
+    // A case of a large store is told as it is: each try would copy it.
+    if store.image.len() > 8 << 20 {
+        return best;
+    }
+    while started.elapsed() < budget {
+        let shows =
+            |store: &Store, call: &Call| passes_refusals_1_and_2(store) && parts(store, call);
+        let call = simpler_calls(&best.1)
+            .into_iter()
+            .find(|call| shows(&best.0, call));
+        if let Some(call) = call {
+            best.1 = call;
+            continue;
+        }
+        let store = simpler_stores(&best.0)
+            .map(|simpler| simpler(&best.0))
+            .take_while(|_| started.elapsed() < budget)
+            .find(|store| *store != best.0 && shows(store, &best.1));
+        match store {
+            Some(store) => best.0 = store,
+            None => break,
+        }
+    }
+    best
+}
+
+fn simpler_calls(call: &Call) -> Vec<Call> {
+    let mut simpler = Vec::new();
+    match call {
+        Call::Write {
+            object,
+            offset,
+            bytes,
+            time,
+        } => {
+            let mut with = |offset: u64, bytes: Vec<u8>| {
+                simpler.push(Call::Write {
+                    object: *object,
+                    offset,
+                    bytes,
+                    time: *time,
+                });
+            };
+            let length = bytes.len();
+            for shorter in [1, length / 16, length / 2, length.saturating_sub(1)] {
+                if (1..length).contains(&shorter) {
+                    with(*offset, bytes[..shorter].to_vec());
+                    with(
+                        offset + (length - shorter) as u64,
+                        bytes[length - shorter..].to_vec(),
+                    );
+                }
+            }
+            if bytes.iter().any(|&byte| byte != 1) {
+                with(*offset, vec![1; length]);
+            }
+            if *offset > 0 {
+                with(0, bytes.clone());
+                with(offset / 2, bytes.clone());
+            }
+        }
+        Call::Read {
+            object,
+            offset,
+            length,
+        } => {
+            for shorter in [1, length / 16, length / 2, length.saturating_sub(1)] {
+                if (1..*length).contains(&shorter) {
+                    simpler.push(Call::Read {
+                        object: *object,
+                        offset: *offset,
+                        length: shorter,
+                    });
+                }
+            }
+            if *offset > 0 {
+                simpler.push(Call::Read {
+                    object: *object,
+                    offset: 0,
+                    length: *length,
+                });
+            }
+        }
+        _ => {}
+    }
+    simpler
+}
+
+type Simpler = Box<dyn Fn(&Store) -> Store>;
+
+/// A change of the volume, as a change of the store.
+fn of_volume(change: impl Fn(&mut Volume) + 'static) -> Simpler {
+    Box::new(move |store| {
+        let mut volume = Volume::decode(store);
+        change(&mut volume);
+        let mut simpler = store.clone();
+        volume.encode(&mut simpler);
+        simpler
+    })
+}
+
+/// Ways to make a store simpler, the coarse ones first.
+fn simpler_stores(store: &Store) -> impl Iterator<Item = Simpler> {
+    let volume = Volume::decode(store);
+    let mut ways: Vec<Simpler> = vec![Box::new(without_last_free_blocks)];
+    for at in 0..volume.cards.len() {
+        ways.push(of_volume(move |v| {
+            let card = v.cards.remove(at);
+            v.extents.retain(|extent| extent.object != card.object);
+            v.groups.retain(|group| group.object != card.object);
+        }));
+    }
+    ways.push(of_volume(|v| v.retired.fill(false)));
+    ways.push(of_volume(only_needed_blocks_used));
+    ways.push(of_volume(|v| v.hint = 0));
+    ways.push(of_volume(|v| v.reserved = 0));
+    for at in 0..volume.groups.len() {
+        ways.push(of_volume(move |v| {
+            v.groups.remove(at);
+        }));
+    }
+    for at in 0..volume.extents.len() {
+        ways.push(of_volume(move |v| {
+            v.extents.remove(at);
+        }));
+    }
+    for (at, card) in volume.cards.iter().enumerate() {
+        let of_card = |extent: &&Extent| extent.object == card.object;
+        let count = volume.extents.iter().filter(of_card).map(|e| e.count).sum();
+        ways.push(of_volume(move |v| v.cards[at].allocated = count));
+    }
+    // Zeros in the image: everywhere, then in ever shorter stretches.
+    let blocks = volume.used.len();
+    let mut stretch = blocks;
+    while stretch > 0 {
+        for from in (0..blocks).step_by(stretch) {
+            let to = (from + stretch).min(blocks);
+            ways.push(Box::new(move |store| {
+                let mut simpler = store.clone();
+                simpler.image[from * BLOCK_BYTES..to * BLOCK_BYTES].fill(0);
+                simpler
+            }));
+        }
+        stretch /= 4;
+    }
+    ways.into_iter()
+}
+
+fn without_last_free_blocks(store: &Store) -> Store {
+    let mut volume = Volume::decode(store);
+    while volume.used.len() > 1 && volume.used.last() == Some(&false) {
+        volume.used.pop();
+        volume.retired.pop();
+    }
+    let mut simpler = Store::blank(
+        volume.blocks(),
+        store.card_places(),
+        store.extent_places(),
+        store.group_places(),
+    );
+    let length = simpler.image.len();
+    simpler.image.copy_from_slice(&store.image[..length]);
+    volume.encode(&mut simpler);
+    simpler
+}
+
+/// No used block beside the reserved, the retired and the mapped ones.
+fn only_needed_blocks_used(volume: &mut Volume) {
+    for block in volume.reserved as usize..volume.used.len() {
+        volume.used[block] = volume.retired[block];
+    }
+    for extent in &volume.extents {
+        volume.used[extent.physical as usize..][..extent.count as usize].fill(true);
+    }
+}
+
+/// A store and a call in words.
+pub fn describe(store: &Store, call: &Call) -> String {
+    let volume = Volume::decode(store);
+    let mut text = String::new();
+    let blocks_of =
+        |bits: &[bool]| -> Vec<usize> { (0..bits.len()).filter(|&block| bits[block]).collect() };
+    let _ = writeln!(
+        text,
+        "store: {} blocks, {} reserved, hint {}; places: {} cards, {} extents, {} groups",
+        volume.blocks(),
+        volume.reserved,
+        volume.hint,
+        store.card_places(),
+        store.extent_places(),
+        store.group_places()
+    );
+    for card in &volume.cards {
+        let _ = writeln!(
+            text,
+            "  card {}: size {}, allocated {}",
+            card.object, card.size, card.allocated
+        );
+    }
+    for e in &volume.extents {
+        let _ = writeln!(
+            text,
+            "  extent of {}: logical {}, physical {}, count {}",
+            e.object, e.logical, e.physical, e.count
+        );
+    }
+    for group in &volume.groups {
+        let slots: Vec<String> = (0..group.slots.len())
+            .filter_map(|n| group.slots[n].map(|crc| format!("{n}: {crc:08x}")))
+            .collect();
+        let _ = writeln!(
+            text,
+            "  group {} of {}: slots {{{}}}",
+            group.number,
+            group.object,
+            slots.join(", ")
+        );
+    }
+    if volume.used.len() <= 1_000 {
+        let _ = writeln!(text, "  used {:?}", blocks_of(&volume.used));
+        let _ = writeln!(text, "  retired {:?}", blocks_of(&volume.retired));
+    }
+    let _ = match call {
+        Call::Write {
+            object,
+            offset,
+            bytes,
+            time,
+        } => writeln!(
+            text,
+            "call: write object {object} offset {offset}, {} bytes, {time:?}",
+            bytes.len()
+        ),
+        call => writeln!(text, "call: {call:?}"),
+    };
+    text
+}

@@ -1,0 +1,82 @@
+//! The public calls and what they answer.
+
+/// What a read's buffer holds before the call, so that a byte that is not
+/// handed out can be seen to be left alone.
+pub const READ_FILL: u8 = 165;
+
+/// The lent time.
+#[derive(Clone, Copy, Debug, PartialEq, Eq)]
+pub struct Time {
+    pub seconds: u64,
+    pub nanoseconds: u64,
+}
+
+#[derive(Clone, Debug, PartialEq, Eq)]
+pub enum Call {
+    Fresh {
+        uuid: Vec<u8>,
+        reserved: u64,
+    },
+    Enter {
+        object: u64,
+        time: Time,
+    },
+    Write {
+        object: u64,
+        offset: u64,
+        bytes: Vec<u8>,
+        time: Time,
+    },
+    Grow {
+        object: u64,
+        size: u64,
+        time: Time,
+    },
+    /// A read into a buffer of `length` bytes, each [`READ_FILL`].
+    Read {
+        object: u64,
+        offset: u64,
+        length: usize,
+    },
+    Settle,
+    Fill,
+}
+
+impl Call {
+    pub fn name(&self) -> &'static str {
+        match self {
+            Self::Fresh { .. } => "fresh",
+            Self::Enter { .. } => "enter",
+            Self::Write { .. } => "write",
+            Self::Grow { .. } => "grow",
+            Self::Read { .. } => "read",
+            Self::Settle => "settle",
+            Self::Fill => "fill",
+        }
+    }
+
+    /// Whether the published Rust has a counterpart.
+    pub fn compared(&self) -> bool {
+        matches!(
+            self,
+            Self::Write { .. } | Self::Grow { .. } | Self::Read { .. }
+        )
+    }
+
+    /// The lent output buffer as it is before the call.
+    pub fn blank_output(&self) -> Vec<u8> {
+        match self {
+            Self::Read { length, .. } => vec![READ_FILL; *length],
+            _ => Vec::new(),
+        }
+    }
+}
+
+/// Number 0 and a count, or a refusal's number and count 0; and the output
+/// buffer as the call left it.
+#[derive(Clone, Debug, PartialEq, Eq)]
+pub struct Answer {
+    pub number: u32,
+    pub count: u64,
+    pub output: Vec<u8>,
+}

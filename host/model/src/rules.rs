@@ -1,0 +1,724 @@
+//! The refusals and the rules of a call, in the order of document 01. The
+//! quoted sentences are the document's.
+
+use std::collections::BTreeSet;
+
+use crate::call::{Answer, Call, Time};
+use crate::crc32c::unit_checksum;
+use crate::records::{
+    CARD_BYTES, Card, EXTENT_BYTES, Extent, GROUP_BYTES, Group, HEAD_BYTES, Head, KEY_BYTES,
+    Volume, bits, map_bit,
+};
+use crate::store::{Store, map_bytes};
+use crate::{
+    BLOCK_BYTES, BLOCKS_PER_UNIT, GROUP_BLOCKS, MAX_ALLOCATED, MAX_BLOCKS, MAX_PLACES, MAX_SIZE,
+    MAX_TRANSFER_BYTES, UNIT_BYTES, UNITS_PER_GROUP,
+};
+
+/// A refusal's number.
+type Refusal = u32;
+
+/// Run one call. A refused call changes no lent byte.
+pub fn run(store: &mut Store, call: &Call) -> Answer {
+    let mut output = call.blank_output();
+    let (number, count) = match answer(store, call, &mut output) {
+        Ok(count) => (0, count),
+        Err(number) => (number, 0),
+    };
+    Answer {
+        number,
+        count,
+        output,
+    }
+}
+
+/// Whether a call other than fresh is refused by neither 1 nor 2.
+pub fn passes_refusals_1_and_2(store: &Store) -> bool {
+    lengths_are_right(store, None) && books_keep_the_rules(store) && maps_keep_the_rules(store)
+}
+
+fn answer(store: &mut Store, call: &Call, output: &mut [u8]) -> Result<u64, Refusal> {
+    if let Call::Fresh { uuid, reserved } = call {
+        refuse_if(!lengths_are_right(store, Some((uuid, *reserved))), 1)?;
+        fresh(store, uuid, *reserved);
+        return Ok(0);
+    }
+    refuse_if(!lengths_are_right(store, None), 1)?;
+    refuse_if(!books_keep_the_rules(store), 2)?;
+    refuse_if(!maps_keep_the_rules(store), 2)?;
+    match call {
+        Call::Fresh { .. } => unreachable!("answered above"),
+        Call::Enter { object, time } => enter(store, *object, *time),
+        Call::Write {
+            object,
+            offset,
+            bytes,
+            time,
+        } => write(store, *object, *offset, bytes, *time),
+        Call::Grow { object, size, time } => grow(store, *object, *size, *time),
+        Call::Read { object, offset, .. } => read(store, *object, *offset, output),
+        Call::Settle => Ok(settle(store)),
+        Call::Fill => Ok(fill(store)),
+    }
+}
+
+fn refuse_if(refused: bool, number: Refusal) -> Result<(), Refusal> {
+    if refused { Err(number) } else { Ok(()) }
+}
+
+// Refusals 1 and 2.
+
+/// Refusal 1. `fresh` holds fresh's uuid and reserved: it does not read the
+/// head, and its own `reserved` must not exceed the blocks.
+fn lengths_are_right(store: &Store, fresh: Option<(&[u8], u64)>) -> bool {
+    // "the image is not 1 to 65,536 whole blocks"
+    let blocks = (store.image.len() / BLOCK_BYTES) as u64;
+    if !store.image.len().is_multiple_of(BLOCK_BYTES) || !(1..=MAX_BLOCKS).contains(&blocks) {
+        return false;
+    }
+    // "a map does not fit it"
+    if store.used.len() != map_bytes(blocks) || store.retired.len() != map_bytes(blocks) {
+        return false;
+    }
+    // "a book is not whole records or has over 1,048,575 places"
+    let books = [
+        (&store.cards, CARD_BYTES),
+        (&store.extents, EXTENT_BYTES),
+        (&store.groups, GROUP_BYTES),
+    ];
+    for (book, record) in books {
+        if !book.len().is_multiple_of(record) || book.len() / record > MAX_PLACES {
+            return false;
+        }
+    }
+    // "a head is not 28 bytes"
+    if store.head.len() != HEAD_BYTES {
+        return false;
+    }
+    match fresh {
+        // "fresh's uuid is not 16 bytes", "reserved exceeds blocks"
+        Some((uuid, reserved)) => uuid.len() == 16 && reserved <= blocks,
+        // "or (fresh does not read it) has blocks other than the image's or
+        // record numbers above the places, or reserved exceeds blocks"
+        None => {
+            let head = Head::decode(&store.head);
+            head.blocks == blocks
+                && head.cards <= store.card_places()
+                && head.extents <= store.extent_places()
+                && head.groups <= store.group_places()
+                && head.reserved <= blocks
+        }
+    }
+}
+
+/// Packed records, then zeros; the key's bytes ascend strictly.
+fn packed_and_ascending(book: &[u8], record: usize, number: usize, key: usize) -> bool {
+    let (records, rest) = book.split_at(number * record);
+    let keys: Vec<&[u8]> = records.chunks(record).map(|r| &r[..key]).collect();
+    keys.is_sorted_by(|a, b| a < b) && rest.iter().all(|&byte| byte == 0)
+}
+
+/// Refusal 2's words on the books.
+fn books_keep_the_rules(store: &Store) -> bool {
+    let head = Head::decode(&store.head);
+    // "order, zeros after the last record"
+    if !packed_and_ascending(&store.cards, CARD_BYTES, head.cards, 8)
+        || !packed_and_ascending(&store.extents, EXTENT_BYTES, head.extents, KEY_BYTES)
+        || !packed_and_ascending(&store.groups, GROUP_BYTES, head.groups, KEY_BYTES)
+    {
+        return false;
+    }
+    // "fixed or spare bytes, nanoseconds 1,000,000,000 or more"
+    let mut cards = store.cards.chunks(CARD_BYTES).take(head.cards);
+    if !cards.all(|card| bits(card, 255, 1) == 0 && Card::decode(card).nanoseconds < 1_000_000_000)
+    {
+        return false;
+    }
+    let mut extents = store.extents.chunks(EXTENT_BYTES).take(head.extents);
+    if !extents.all(|extent| extent[8] == 3 && extent[29..] == [0; 4]) {
+        return false;
+    }
+    // "a slot not present but not zero"
+    let mut groups = store.groups.chunks(GROUP_BYTES).take(head.groups);
+    if !groups.all(|group| {
+        let (presence, slots) = group[KEY_BYTES..].split_at(32);
+        let mut slots = slots.chunks(4).enumerate();
+        group[8] == 4 && slots.all(|(n, slot)| map_bit(presence, n as u64) || slot == [0; 4])
+    }) {
+        return false;
+    }
+    let volume = Volume::decode(store);
+    let mut before: Option<&Extent> = None;
+    for extent in &volume.extents {
+        let end = u128::from(extent.logical) + u128::from(extent.count);
+        let device_end = u128::from(extent.physical) + u128::from(extent.count);
+        // "an extent with count 0"
+        if extent.count == 0 {
+            return false;
+        }
+        // "overlapping its neighbour in the file"
+        if let Some(before) = before
+            && before.object == extent.object
+            && u128::from(before.logical) + u128::from(before.count) > extent.logical.into()
+        {
+            return false;
+        }
+        // "past the device"
+        if device_end > volume.blocks().into() {
+            return false;
+        }
+        // "or past the blocks of its file's size, or without a card"
+        match volume.card(extent.object) {
+            None => return false,
+            Some(card) if end > card.size.div_ceil(BLOCK_BYTES as u64).into() => return false,
+            Some(_) => {}
+        }
+        before = Some(extent);
+    }
+    true
+}
+
+/// Refusal 2's words on the maps.
+fn maps_keep_the_rules(store: &Store) -> bool {
+    let volume = Volume::decode(store);
+    let is_reserved = |block: u64| block < volume.reserved;
+    // "a mapped block not used, or retired, or reserved"
+    for extent in &volume.extents {
+        for block in extent.physical..extent.physical + extent.count {
+            let at = block as usize;
+            if !volume.used[at] || volume.retired[at] || is_reserved(block) {
+                return false;
+            }
+        }
+    }
+    // "a reserved block not used, or retired"
+    // "a retired block not used"
+    for block in 0..volume.blocks() {
+        let (used, retired) = (volume.used[block as usize], volume.retired[block as usize]);
+        if is_reserved(block) && (!used || retired) || retired && !used {
+            return false;
+        }
+    }
+    // "a bit past the last block"
+    let past = volume.blocks()..store.used.len() as u64 * 8;
+    past.into_iter()
+        .all(|bit| !map_bit(&store.used, bit) && !map_bit(&store.retired, bit))
+}
+
+// The calls.
+
+/// "Fresh, given uuid and reserved, zeros books and maps, sets the used bits
+/// of the first blocks, as many as reserved, and writes a head with hint 0
+/// and no records; the image stays."
+fn fresh(store: &mut Store, uuid: &[u8], reserved: u64) {
+    let blocks = (store.image.len() / BLOCK_BYTES) as u64;
+    Volume {
+        uuid: uuid.try_into().expect("refusal 1"),
+        reserved,
+        hint: 0,
+        cards: Vec::new(),
+        extents: Vec::new(),
+        groups: Vec::new(),
+        used: (0..blocks).map(|block| block < reserved).collect(),
+        retired: vec![false; blocks as usize],
+    }
+    .encode(store);
+}
+
+/// Refusal 7.
+fn time_is_bad(time: Time) -> bool {
+    time.seconds > MAX_SIZE || time.nanoseconds >= 1_000_000_000
+}
+
+/// "Enter adds a card of size 0 with no blocks and the lent time."
+fn enter(store: &mut Store, object: u64, time: Time) -> Result<u64, Refusal> {
+    let mut volume = Volume::decode(store);
+    refuse_if(volume.card(object).is_some(), 4)?;
+    refuse_if(time_is_bad(time), 7)?;
+    refuse_if(volume.cards.len() == store.card_places(), 8)?;
+    volume.cards.push(Card {
+        object,
+        size: 0,
+        allocated: 0,
+        seconds: time.seconds,
+        nanoseconds: time.nanoseconds,
+    });
+    volume.cards.sort_by_key(|card| card.object);
+    volume.encode(store);
+    Ok(0)
+}
+
+/// "empty bytes answer 0 and change nothing. Otherwise at most 1,048,576
+/// bytes are taken, and that count is the answer."
+fn write(
+    store: &mut Store,
+    object: u64,
+    offset: u64,
+    bytes: &[u8],
+    time: Time,
+) -> Result<u64, Refusal> {
+    let card = *Volume::decode(store).card(object).ok_or(3u32)?;
+    if bytes.is_empty() {
+        return Ok(0);
+    }
+    let bytes = &bytes[..bytes.len().min(MAX_TRANSFER_BYTES)];
+    let end = u128::from(offset) + bytes.len() as u128;
+    refuse_if(end > MAX_SIZE.into(), 5)?;
+    refuse_if(time_is_bad(time), 7)?;
+    let end = end as u64;
+    let new_size = card.size.max(end);
+    // "Units: those touched, and before them the old tail unit if the file
+    // grows, its size is not a multiple of 65,536 and that unit is not
+    // touched."
+    let touched = offset / UNIT_BYTES..=(end - 1) / UNIT_BYTES;
+    let tail = card.size / UNIT_BYTES;
+    let mut units = Vec::new();
+    if new_size > card.size && !card.size.is_multiple_of(UNIT_BYTES) && !touched.contains(&tail) {
+        units.push(tail);
+    }
+    units.extend(touched);
+    let written = Some(Written { offset, bytes });
+    rewrite(store, card, new_size, written, &units, time)?;
+    Ok(bytes.len() as u64)
+}
+
+/// "equal size changes nothing, not even the time; otherwise only the old
+/// tail unit, if partial, is rewritten."
+fn grow(store: &mut Store, object: u64, size: u64, time: Time) -> Result<u64, Refusal> {
+    let card = *Volume::decode(store).card(object).ok_or(3u32)?;
+    refuse_if(size > MAX_SIZE, 5)?;
+    refuse_if(size < card.size, 6)?;
+    if size == card.size {
+        return Ok(0);
+    }
+    refuse_if(time_is_bad(time), 7)?;
+    let units = if card.size.is_multiple_of(UNIT_BYTES) {
+        vec![]
+    } else {
+        vec![card.size / UNIT_BYTES]
+    };
+    rewrite(store, card, size, None, &units, time)?;
+    Ok(0)
+}
+
+/// "0 at or past the end or for an empty buffer; else at most 1,048,576
+/// bytes. [...] All units are checked before a byte is handed out (added)."
+fn read(store: &Store, object: u64, offset: u64, output: &mut [u8]) -> Result<u64, Refusal> {
+    let volume = Volume::decode(store);
+    let card = *volume.card(object).ok_or(3u32)?;
+    if offset >= card.size || output.is_empty() {
+        return Ok(0);
+    }
+    let length = (card.size - offset)
+        .min(output.len() as u64)
+        .min(MAX_TRANSFER_BYTES as u64);
+    let first = offset / UNIT_BYTES;
+    let last = (offset + length - 1) / UNIT_BYTES;
+    let mut bytes = Vec::new();
+    for unit in first..=last {
+        let valid = valid_length(card.size, unit);
+        let checked = check_unit(&volume, &store.image, &card, unit)?;
+        bytes.extend(checked.unwrap_or(vec![0; valid]));
+    }
+    let from = (offset - first * UNIT_BYTES) as usize;
+    let count = length as usize;
+    output[..count].copy_from_slice(&bytes[from..from + count]);
+    Ok(length)
+}
+
+/// "settle, which clears both bits of every retired block and answers how
+/// many."
+fn settle(store: &mut Store) -> u64 {
+    let mut volume = Volume::decode(store);
+    let mut count = 0;
+    for (used, retired) in volume.used.iter_mut().zip(&mut volume.retired) {
+        if *retired {
+            (*used, *retired) = (false, false);
+            count += 1;
+        }
+    }
+    volume.encode(store);
+    count
+}
+
+/// "used blocks times 1,000, divided by all blocks, rounded down."
+fn fill(store: &Store) -> u64 {
+    let volume = Volume::decode(store);
+    volume.used.iter().filter(|used| **used).count() as u64 * 1_000 / volume.blocks()
+}
+
+// Units.
+
+/// How many bytes of a unit lie below the size.
+fn valid_length(size: u64, unit: u64) -> usize {
+    size.saturating_sub(unit * UNIT_BYTES).min(UNIT_BYTES) as usize
+}
+
+/// Refusals 9 to 12 on a unit to be read: its valid bytes, or `None` for a
+/// hole.
+fn check_unit(
+    volume: &Volume,
+    image: &[u8],
+    card: &Card,
+    unit: u64,
+) -> Result<Option<Vec<u8>>, Refusal> {
+    let object = card.object;
+    let first = unit * BLOCKS_PER_UNIT;
+    let Some(checksum) = volume.slot(object, unit) else {
+        // "A unit to be read has no slot, and the object's last extent
+        // starting at or before the unit's last block ends past its first."
+        let last_block = first + BLOCKS_PER_UNIT - 1;
+        let last = volume
+            .extents
+            .iter()
+            .rfind(|extent| extent.object == object && extent.logical <= last_block);
+        refuse_if(last.is_some_and(|extent| extent.end() > first), 9)?;
+        return Ok(None);
+    };
+    // "A unit with a slot is not fully backed up to its valid length."
+    let valid = valid_length(card.size, unit);
+    let mut bytes = Vec::with_capacity(UNIT_BYTES as usize);
+    for index in 0..valid.div_ceil(BLOCK_BYTES) as u64 {
+        let block = volume.block_at(object, first + index).ok_or(10u32)?;
+        let at = block as usize * BLOCK_BYTES;
+        bytes.extend_from_slice(&image[at..at + BLOCK_BYTES]);
+    }
+    // "A backed byte after the valid length in the last block is not zero."
+    refuse_if(bytes[valid..].iter().any(|&byte| byte != 0), 11)?;
+    bytes.truncate(valid);
+    // "The checksum differs."
+    refuse_if(
+        unit_checksum(&volume.uuid, object, unit, &bytes) != checksum,
+        12,
+    )?;
+    Ok(Some(bytes))
+}
+
+/// The bytes that a write stores, clipped.
+#[derive(Clone, Copy)]
+struct Written<'a> {
+    offset: u64,
+    bytes: &'a [u8],
+}
+
+impl Written<'_> {
+    /// The part that falls into the unit, relative to the unit's start and
+    /// to the written bytes.
+    fn in_unit(&self, unit: u64) -> Option<(std::ops::Range<usize>, &[u8])> {
+        let start = unit * UNIT_BYTES;
+        let from = self.offset.max(start);
+        let to = (self.offset + self.bytes.len() as u64).min(start + UNIT_BYTES);
+        (from < to).then(|| {
+            let part = &self.bytes[(from - self.offset) as usize..(to - self.offset) as usize];
+            ((from - start) as usize..(to - start) as usize, part)
+        })
+    }
+}
+
+/// What a unit becomes.
+struct Rewritten {
+    unit: u64,
+    /// Its new valid bytes.
+    bytes: Vec<u8>,
+    /// The block at each of its places, and whether it is a new one.
+    blocks: Vec<(u64, bool)>,
+    /// The blocks that leave its places, one for each place.
+    superseded: Vec<u64>,
+}
+
+/// What the units of a call pass on: the blocks taken, the hint and the
+/// card's count.
+struct Carried {
+    taken: BTreeSet<u64>,
+    hint: u64,
+    allocated: u64,
+}
+
+/// The number of runs of the first `number` blocks. "Kept neighbours with
+/// adjoining physical blocks continue a run, and so do two not kept; every
+/// other pair breaks it. The count of runs is written as a recursion over the
+/// number of blocks."
+fn runs(kept: &[Option<u64>], number: usize) -> usize {
+    match number {
+        0 => 0,
+        1 => 1,
+        _ => {
+            let continues = match (kept[number - 2], kept[number - 1]) {
+                (Some(before), Some(block)) => before + 1 == block,
+                (None, None) => true,
+                _ => false,
+            };
+            runs(kept, number - 1) + usize::from(!continues)
+        }
+    }
+}
+
+/// "groups from the hint modulo their number, cyclic; in each, from after the
+/// highest block taken by this call in that group (from its start if none, or
+/// if that was its last), then around." Ascending, as they are assigned.
+fn allocate(volume: &Volume, carried: &Carried, wanted: usize) -> Result<Vec<u64>, Refusal> {
+    let groups = volume.blocks().div_ceil(GROUP_BLOCKS);
+    let mut found = Vec::new();
+    for group in (0..groups).map(|n| (carried.hint + n) % groups) {
+        let first = group * GROUP_BLOCKS;
+        let end = (first + GROUP_BLOCKS).min(volume.blocks());
+        let highest = carried.taken.range(first..end).next_back();
+        let from = match highest {
+            Some(&block) if block + 1 < end => block + 1,
+            _ => first,
+        };
+        for block in (from..end).chain(first..from) {
+            if found.len() == wanted {
+                break;
+            }
+            // "A free block is one whose used bit is clear."
+            if !volume.used[block as usize] && !carried.taken.contains(&block) {
+                found.push(block);
+            }
+        }
+    }
+    // "Fewer blocks have a clear used bit and are untaken by this call's
+    // earlier units than the unit wants."
+    refuse_if(found.len() < wanted, 13)?;
+    found.sort_unstable();
+    Ok(found)
+}
+
+/// One unit, or `None` for an untouched hole.
+fn rewrite_unit(
+    volume: &Volume,
+    image: &[u8],
+    card: &Card,
+    new_size: u64,
+    written: Option<Written<'_>>,
+    unit: u64,
+    carried: &mut Carried,
+) -> Result<Option<Rewritten>, Refusal> {
+    let old_valid = valid_length(card.size, unit);
+    let new_valid = valid_length(new_size, unit);
+    let part = written.as_ref().and_then(|written| written.in_unit(unit));
+    let dirty = part.as_ref().map_or(0..0, |(range, _)| range.clone());
+
+    // "Its old bytes are read and checked if there are any and the write does
+    // not cover all of them."
+    let covered = dirty.start == 0 && dirty.end >= old_valid;
+    let (mut bytes, checked) = if old_valid > 0 && !covered {
+        match check_unit(volume, image, card, unit)? {
+            Some(bytes) => (bytes, true),
+            // "An untouched hole stays a hole."
+            None if part.is_none() => return Ok(None),
+            None => (Vec::new(), false),
+        }
+    } else {
+        (Vec::new(), false)
+    };
+    bytes.resize(new_valid, 0);
+    if let Some((range, part)) = part {
+        bytes[range].copy_from_slice(part);
+    }
+
+    // "A block is kept if the old unit was checked, it is mapped, it lies
+    // wholly inside both old and new valid length, and no written byte falls
+    // in it. If the unit's blocks then form over four runs, none is kept."
+    let first = unit * BLOCKS_PER_UNIT;
+    let places = new_valid.div_ceil(BLOCK_BYTES);
+    let old: Vec<Option<u64>> = (0..BLOCKS_PER_UNIT)
+        .map(|index| volume.block_at(card.object, first + index))
+        .collect();
+    let mut kept: Vec<Option<u64>> = (0..places)
+        .map(|index| {
+            let (from, to) = (index * BLOCK_BYTES, (index + 1) * BLOCK_BYTES);
+            let inside = to <= old_valid && to <= new_valid;
+            let written_into = dirty.start < to && from < dirty.end;
+            old[index].filter(|_| checked && inside && !written_into)
+        })
+        .collect();
+    if runs(&kept, places) > 4 {
+        kept.fill(None);
+    }
+
+    let wanted = kept.iter().filter(|block| block.is_none()).count();
+    let new = allocate(volume, carried, wanted)?;
+    // "The hint becomes the group of the last one so assigned, if any."
+    if let Some(last) = new.last() {
+        carried.hint = last / GROUP_BLOCKS;
+    }
+    carried.taken.extend(&new);
+
+    // "The blocks this unit retires exceed the card's count as the earlier
+    // units left it, or the new count exceeds 34,359,738,367."
+    let is_kept = |index: usize| kept.get(index).is_some_and(Option::is_some);
+    let superseded: Vec<u64> = (0..old.len())
+        .filter(|&index| !is_kept(index))
+        .filter_map(|index| old[index])
+        .collect();
+    let left = carried.allocated.checked_sub(superseded.len() as u64);
+    carried.allocated = left.ok_or(14u32)? + wanted as u64;
+    refuse_if(carried.allocated > MAX_ALLOCATED, 14)?;
+
+    // "The blocks taken for a unit are assigned ascending."
+    let mut new = new.into_iter();
+    let blocks = kept
+        .iter()
+        .map(|kept| match kept {
+            Some(block) => (*block, false),
+            None => (new.next().expect("as many as wanted"), true),
+        })
+        .collect();
+    Ok(Some(Rewritten {
+        unit,
+        bytes,
+        blocks,
+        superseded,
+    }))
+}
+
+/// The units of a write or a grow, the finished books and the stores.
+fn rewrite(
+    store: &mut Store,
+    card: Card,
+    new_size: u64,
+    written: Option<Written<'_>>,
+    units: &[u64],
+    time: Time,
+) -> Result<(), Refusal> {
+    let mut volume = Volume::decode(store);
+    let mut carried = Carried {
+        taken: BTreeSet::new(),
+        hint: volume.hint,
+        allocated: card.allocated,
+    };
+    // "Numbers 9 to 14 are tried unit by unit, ascending; the first found is
+    // given."
+    let mut rewritten = Vec::new();
+    for &unit in units {
+        rewritten.extend(rewrite_unit(
+            &volume,
+            &store.image,
+            &card,
+            new_size,
+            written,
+            unit,
+            &mut carried,
+        )?);
+    }
+    let groups = finished_groups(&volume, card.object, &rewritten);
+    refuse_if(groups.len() > store.group_places(), 15)?;
+    let extents = finished_extents(&volume, card.object, &rewritten);
+    refuse_if(extents.len() > store.extent_places(), 16)?;
+
+    // "A new block is zero past the valid length; no other image byte
+    // changes. Superseded blocks become retired and stay used".
+    for unit in &rewritten {
+        for (bytes, &(block, new)) in unit.bytes.chunks(BLOCK_BYTES).zip(&unit.blocks) {
+            if new {
+                let at = block as usize * BLOCK_BYTES;
+                store.image[at..at + BLOCK_BYTES].fill(0);
+                store.image[at..at + bytes.len()].copy_from_slice(bytes);
+                volume.used[block as usize] = true;
+            }
+        }
+        for &block in &unit.superseded {
+            volume.retired[block as usize] = true;
+        }
+    }
+    volume.hint = carried.hint;
+    volume.groups = groups;
+    volume.extents = extents;
+    for kept in &mut volume.cards {
+        if kept.object == card.object {
+            *kept = Card {
+                object: card.object,
+                size: new_size,
+                allocated: carried.allocated,
+                seconds: time.seconds,
+                nanoseconds: time.nanoseconds,
+            };
+        }
+    }
+    volume.encode(store);
+    Ok(())
+}
+
+/// "The unit's slot gets its checksum, in a group added if missing".
+fn finished_groups(volume: &Volume, object: u64, rewritten: &[Rewritten]) -> Vec<Group> {
+    let mut groups = volume.groups.clone();
+    for unit in rewritten {
+        let number = unit.unit / UNITS_PER_GROUP;
+        let place = groups.binary_search_by_key(&(object, number), |g| (g.object, g.number));
+        let at = place.unwrap_or_else(|at| {
+            groups.insert(at, Group::empty(object, number));
+            at
+        });
+        let checksum = unit_checksum(&volume.uuid, object, unit.unit, &unit.bytes);
+        groups[at].slots[(unit.unit % UNITS_PER_GROUP) as usize] = Some(checksum);
+    }
+    groups
+}
+
+/// "a rewritten unit's blocks leave the old extents, whose other parts stay.
+/// Over the call, its units' blocks adjoining in file and device form runs;
+/// each run, ascending, takes in the extent after it if they join, then the
+/// one before."
+fn finished_extents(volume: &Volume, object: u64, rewritten: &[Rewritten]) -> Vec<Extent> {
+    let is_rewritten = |logical: u64| {
+        rewritten
+            .iter()
+            .any(|r| r.unit == logical / BLOCKS_PER_UNIT)
+    };
+    let mut extents: Vec<Extent> = Vec::new();
+    for extent in &volume.extents {
+        if extent.object != object {
+            extents.push(*extent);
+            continue;
+        }
+        let mut logical = extent.logical;
+        while logical < extent.end() {
+            let stays = !is_rewritten(logical);
+            let mut end = logical;
+            while end < extent.end() && is_rewritten(end) != stays {
+                end = ((end / BLOCKS_PER_UNIT + 1) * BLOCKS_PER_UNIT).min(extent.end());
+            }
+            if stays {
+                extents.push(Extent {
+                    object,
+                    logical,
+                    physical: extent.physical + (logical - extent.logical),
+                    count: end - logical,
+                });
+            }
+            logical = end;
+        }
+    }
+
+    let mut made: Vec<Extent> = Vec::new();
+    for unit in rewritten {
+        for (index, &(block, _)) in unit.blocks.iter().enumerate() {
+            let one = Extent {
+                object,
+                logical: unit.unit * BLOCKS_PER_UNIT + index as u64,
+                physical: block,
+                count: 1,
+            };
+            match made.last_mut() {
+                Some(run) if run.joins(&one) => run.count += 1,
+                _ => made.push(one),
+            }
+        }
+    }
+    for mut run in made {
+        let place = |extents: &[Extent], run: &Extent| {
+            extents.partition_point(|e| (e.object, e.logical) < (object, run.logical))
+        };
+        let at = place(&extents, &run);
+        if extents.get(at).is_some_and(|after| run.joins(after)) {
+            run.count += extents.remove(at).count;
+        }
+        if at > 0 && extents[at - 1].joins(&run) {
+            extents[at - 1].count += run.count;
+        } else {
+            extents.insert(at, run);
+        }
+    }
+    extents
+}

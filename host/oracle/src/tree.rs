@@ -1,0 +1,106 @@
+//! `crate::tree`: an ordered map of catalog records in place of the tree.
+
+use std::collections::BTreeMap;
+use std::ops::Bound;
+use std::rc::Rc;
+
+use crate::format::{BLOCK_BYTES, Page, TreeKind};
+use crate::{BlockDevice, Error, Result};
+
+// `u64_le`, `u64_be` and, of `Forest`, `write_data`, `take_data` and
+// `read_data` as published.
+include!(concat!(env!("OUT_DIR"), "/tree.rs"));
+
+pub(crate) type Record = (Vec<u8>, Vec<u8>);
+type Records = BTreeMap<Rc<[u8]>, Rc<[u8]>>;
+
+/// Stands for the root edge of the catalog: a snapshot of its records, as an
+/// edge of the published tree is one. Left out: pages, levels, generations,
+/// block totals.
+#[derive(Clone, Default)]
+pub(crate) struct Edge(Rc<Records>);
+
+impl Edge {
+    pub(crate) fn of(records: impl Iterator<Item = Record>) -> Self {
+        let records = records.map(|(key, value)| (key.into(), value.into()));
+        Self(Rc::new(records.collect()))
+    }
+
+    pub(crate) fn records(&self) -> impl Iterator<Item = (&[u8], &[u8])> {
+        self.0.iter().map(|(key, value)| (&**key, &**value))
+    }
+}
+
+/// Stands for the fields of `format::Root` that file.rs and `allocate_data`
+/// read.
+pub(crate) struct Root {
+    pub uuid: [u8; 16],
+    pub blocks: u64,
+}
+
+/// Stands for the tree's draft forest: the operations of an ordered map on
+/// [`Edge`]s, and the published queue of data pages. Left out: page reads and
+/// their checks (document 01's refusal 2 stands in their place), drafts,
+/// caches, limits on pages, and the validation of a record that is put.
+pub(crate) struct Forest<'a, D> {
+    pub device: &'a mut D,
+    pub base: &'a Root,
+    data: Vec<(u64, Page)>,
+    data_index: BTreeMap<u64, usize>,
+}
+
+impl<'a, D: BlockDevice> Forest<'a, D> {
+    pub(crate) fn new(device: &'a mut D, base: &'a Root) -> Self {
+        Self {
+            device,
+            base,
+            data: Vec::new(),
+            data_index: BTreeMap::new(),
+        }
+    }
+
+    pub fn lookup(&mut self, root: &Edge, _: TreeKind, key: &[u8]) -> Result<Option<Vec<u8>>> {
+        Ok(root.0.get(key).map(|value| value.to_vec()))
+    }
+
+    /// The record with the greatest key less than or equal to `key`.
+    pub fn floor(&mut self, root: &Edge, _: TreeKind, key: &[u8]) -> Result<Option<Record>> {
+        let upto = (Bound::Unbounded, Bound::Included(key));
+        let last = root.0.range::<[u8], _>(upto).next_back();
+        Ok(last.map(|(key, value)| (key.to_vec(), value.to_vec())))
+    }
+
+    /// At most `limit` records from `start` on, before `end`.
+    pub fn scan_before(
+        &mut self,
+        root: &Edge,
+        _: TreeKind,
+        start: &[u8],
+        end: Option<&[u8]>,
+        limit: usize,
+    ) -> Result<Vec<Record>> {
+        if limit > 64 {
+            return Err(Error::LimitExceeded);
+        }
+        let from = (Bound::Included(start), Bound::Unbounded);
+        Ok(root
+            .0
+            .range::<[u8], _>(from)
+            .take_while(|(key, _)| end.is_none_or(|end| &***key < end))
+            .take(limit)
+            .map(|(key, value)| (key.to_vec(), value.to_vec()))
+            .collect())
+    }
+
+    pub fn put(&mut self, root: Edge, _: TreeKind, key: &[u8], value: &[u8]) -> Result<Edge> {
+        let mut root = root;
+        Rc::make_mut(&mut root.0).insert(key.into(), value.into());
+        Ok(root)
+    }
+
+    pub fn remove(&mut self, root: Edge, _: TreeKind, key: &[u8]) -> Result<Edge> {
+        let mut root = root;
+        Rc::make_mut(&mut root.0).remove(key);
+        Ok(root)
+    }
+}

@@ -1,0 +1,182 @@
+//! The cases of document 01 that the Rust can answer, asserted against it.
+//! Without the published source there is nothing to ask, and one line says so.
+
+#[cfg(not(carryfs))]
+#[test]
+fn skipped() {
+    assert!(oracle::skipped("the cases of document 01"));
+}
+
+#[cfg(carryfs)]
+mod cases {
+    use model::{Call, Store, Time, Volume};
+    use oracle::{Error, Outcome, compact_group, private};
+
+    const TIME: Time = Time {
+        seconds: 1,
+        nanoseconds: 2,
+    };
+
+    /// The text that the recorded answers were made with: 1,045 lines (one
+    /// less by its line feeds), and its own CRC-32C.
+    #[test]
+    fn file_rs_is_the_published_text() {
+        let text = std::fs::read(env!("CARRYFS_FILE")).expect("the published file");
+        assert_eq!(text.iter().filter(|byte| **byte == b'\n').count(), 1_044);
+        assert_eq!(model::crc32c::crc32c(&text), 0xf5f5_8895);
+    }
+
+    fn compact_length(slots: &[usize]) -> usize {
+        let mut group = [0; 1_056];
+        for slot in slots {
+            group[slot / 8] |= 1 << (slot % 8);
+        }
+        compact_group(&group).len()
+    }
+
+    #[test]
+    fn p1_to_p4_compact_lengths() {
+        assert_eq!(compact_length(&[]), 32);
+        assert_eq!(compact_length(&[0]), 36);
+        assert_eq!(compact_length(&[0, 9]), 72);
+        assert_eq!(compact_length(&[255]), 1_056);
+    }
+
+    #[test]
+    fn p5_to_p7_joins() {
+        assert!(private::joins([0, 10, 4], [4, 14, 2]));
+        assert!(!private::joins([0, 10, 4], [4, 15, 2]));
+        assert!(!private::joins(
+            [0, 0, 4_294_967_295],
+            [4_294_967_295, 4_294_967_295, 1]
+        ));
+    }
+
+    #[test]
+    fn p8_and_p9_kept_blocks() {
+        assert_eq!(private::kept(&[10, 20, 30, 40]), [true; 4]);
+        assert_eq!(private::kept(&[10, 20, 30, 40, 50]), [false; 5]);
+    }
+
+    #[test]
+    fn p10_and_p11_units() {
+        assert_eq!(private::units(70_000, 200_000, &[1]), [1, 3]);
+        assert_eq!(private::units(65_536, 200_000, &[1]), [3]);
+    }
+
+    /// A fresh store with one entered file, by the model's calls.
+    fn store_with(object: u64, blocks: u64, reserved: u64) -> Store {
+        let mut store = Store::blank(blocks, 2, 40, 4);
+        let fresh = Call::Fresh {
+            uuid: vec![9; 16],
+            reserved,
+        };
+        let enter = Call::Enter { object, time: TIME };
+        assert_eq!(model::run(&mut store, &fresh).number, 0);
+        assert_eq!(model::run(&mut store, &enter).number, 0);
+        store
+    }
+
+    fn write(store: &mut Store, object: u64, offset: u64, bytes: &[u8]) -> Outcome {
+        let call = Call::Write {
+            object,
+            offset,
+            bytes: bytes.to_vec(),
+            time: TIME,
+        };
+        oracle::run(store, &call).outcome
+    }
+
+    fn grow(store: &mut Store, object: u64, size: u64) -> Outcome {
+        let call = Call::Grow {
+            object,
+            size,
+            time: TIME,
+        };
+        oracle::run(store, &call).outcome
+    }
+
+    fn extents(store: &Store) -> Vec<[u64; 4]> {
+        Volume::decode(store)
+            .extents
+            .iter()
+            .map(|e| [e.object, e.logical, e.physical, e.count])
+            .collect()
+    }
+
+    #[test]
+    fn the_layout_store() {
+        let mut store = store_with(7, 8, 1);
+        assert_eq!(
+            write(&mut store, 7, 0, &[5; 9_000]),
+            Outcome::Accepted(9_000)
+        );
+        assert_eq!(write(&mut store, 7, 5_000, &[6; 10]), Outcome::Accepted(10));
+        let before = store.clone();
+        assert_eq!(
+            grow(&mut store, 7, 20_000),
+            Outcome::Refused(Error::NoSpace)
+        );
+        assert_eq!(store, before);
+        assert_eq!(model::run(&mut store, &Call::Settle).count, 2);
+        assert_eq!(grow(&mut store, 7, 20_000), Outcome::Accepted(0));
+        assert_eq!(
+            extents(&store),
+            [[7, 0, 1, 1], [7, 1, 4, 1], [7, 2, 2, 2], [7, 4, 6, 1]]
+        );
+    }
+
+    /// P5 and P6 by what a write leaves: four kept blocks, then two new ones that
+    /// adjoin them on the device, or not.
+    #[test]
+    fn p5_and_p6_by_effect() {
+        for (leaked, expected) in [
+            (None, vec![[7, 0, 10, 6]]),
+            (Some(14), vec![[7, 0, 10, 4], [7, 4, 15, 2]]),
+        ] {
+            let mut store = store_with(7, 64, 10);
+            write(&mut store, 7, 0, &[5; 4 * 4_096]);
+            let mut volume = Volume::decode(&store);
+            if let Some(block) = leaked {
+                volume.used[block] = true;
+                volume.encode(&mut store);
+            }
+            assert_eq!(
+                write(&mut store, 7, 4 * 4_096, &[6; 8_192]),
+                Outcome::Accepted(8_192)
+            );
+            assert_eq!(extents(&store), expected);
+        }
+    }
+
+    #[test]
+    fn offset_2_63_minus_2_takes_one_byte_and_not_two() {
+        let mut store = store_with(7, 40, 0);
+        let offset = 9_223_372_036_854_775_806;
+        assert_eq!(
+            write(&mut store, 7, offset, &[1, 2]),
+            Outcome::Refused(Error::LimitExceeded)
+        );
+        assert_eq!(write(&mut store, 7, offset, &[1]), Outcome::Accepted(1));
+        assert_eq!(Volume::decode(&store).cards[0].size, model::MAX_SIZE);
+    }
+
+    /// "Clip before refusal 5".
+    #[test]
+    fn a_write_is_clipped_before_its_end_is_tried() {
+        let mut store = store_with(7, 300, 0);
+        let offset = model::MAX_SIZE - 1_048_576;
+        assert_eq!(
+            write(&mut store, 7, offset, &vec![1; 1_048_577]),
+            Outcome::Accepted(1_048_576)
+        );
+    }
+
+    #[test]
+    fn the_checksum_is_the_documents() {
+        let mut store = store_with(7, 8, 1);
+        write(&mut store, 7, 65_536, b"abc");
+        let expected = model::crc32c::unit_checksum(&[9; 16], 7, 1, b"abc");
+        assert_eq!(Volume::decode(&store).slot(7, 1), Some(expected));
+    }
+}
