@@ -1,5 +1,5 @@
 # The two commands of README.md, and what they are made of. The Rattle kit (rt), cargo and python3 are all that is needed.
-.PHONY: demo test clean
+.PHONY: demo test bench clean
 
 # The main job: prove what is claimed, and run the programs on it.
 demo:
@@ -9,5 +9,10 @@ demo:
 test:
 	.ci/run
 
+# The proved functions against plain Rust, as ratios, in one run.
+bench:
+	rt staticlib probe
+	cargo run --release --offline --quiet --manifest-path host/bench/Cargo.toml
+
 clean:
-	rm -rf target host/target
+	rm -rf target host/target host/bench/target

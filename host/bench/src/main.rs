@@ -5,7 +5,7 @@ mod measure;
 mod plain;
 mod proved;
 
-use measure::{pair, speeds};
+use measure::{pair, speeds, times};
 use std::hint::black_box;
 use std::time::Duration;
 
@@ -28,6 +28,7 @@ fn main() {
     println!("{:<52} {:>8} {:>8}", "", "ours", "theirs");
     crc();
     ranges();
+    maps();
 }
 
 fn crc() {
@@ -85,4 +86,31 @@ fn ranges() {
         );
         assert_eq!(to, from);
     }
+}
+
+/// The map of the largest store: 65,536 blocks, 1,024 words.
+fn maps() {
+    let (map, clear) = (filled(8192), vec![0u8; 8192]);
+    assert_eq!(proved::count_set(&map) as u64, plain::count_set(&map));
+    assert!(proved::all_clear(&clear) && !proved::all_clear(&map));
+    let ours = || {
+        black_box(proved::count_set(black_box(&map)));
+    };
+    let theirs = || {
+        black_box(plain::count_set(black_box(&map)));
+    };
+    times(
+        "count of set bits, 1,024 words, and Rust's count_ones",
+        pair(ROUNDS, SPAN, ours, theirs),
+    );
+    let ours = || {
+        black_box(proved::all_clear(black_box(&clear)));
+    };
+    let theirs = || {
+        black_box(plain::all_clear(black_box(&clear)));
+    };
+    times(
+        "all clear, 1,024 words, and Rust's word test",
+        pair(ROUNDS, SPAN, ours, theirs),
+    );
 }

@@ -5,6 +5,8 @@ mod probe {
         pub fn sangueko_probe_crc32c(bytes: *const u8, len: usize) -> u32;
         pub fn sangueko_probe_is_zero(bytes: *const u8, len: usize) -> bool;
         pub fn sangueko_probe_copy(to: *mut u8, to_len: usize, from: *const u8, from_len: usize);
+        pub fn sangueko_probe_count_set(map: *const u8, len: usize) -> usize;
+        pub fn sangueko_probe_all_clear(map: *const u8, len: usize) -> bool;
     }
 }
 
@@ -20,4 +22,12 @@ pub fn is_zero(bytes: &[u8]) -> bool {
 
 pub fn copy(to: &mut [u8], from: &[u8]) {
     unsafe { probe::sangueko_probe_copy(to.as_mut_ptr(), to.len(), from.as_ptr(), from.len()) }
+}
+
+pub fn count_set(map: &[u8]) -> usize {
+    unsafe { probe::sangueko_probe_count_set(map.as_ptr(), map.len()) }
+}
+
+pub fn all_clear(map: &[u8]) -> bool {
+    unsafe { probe::sangueko_probe_all_clear(map.as_ptr(), map.len()) }
 }

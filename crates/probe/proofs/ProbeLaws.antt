@@ -1,0 +1,56 @@
+-- What the probes' answers come to, from what the functions behind them ensure.
+-- Assumes nothing.
+use mathlib.Core.Path.{_≡_, refl, sym, ap, _∙_}
+use mathlib.Core.Bool.{Bool, not}
+use mathlib.Core.List.{List}
+use Prim.Native.Nat.{ℕ, _-_, _*_, _≤_, _<_}
+use native.Mathlib.Nat.{sub-zero, le-refl}
+use native.Mathlib.Omega.{arith}
+use borrow.Author.Tests.{eq-eqb, ne-eqb, le-leb, lt-leb}
+use lib.Dec.{eqb, leb}
+use lib.ListN.{length}
+use Rattle.rules.specs.Lists.{all, count, range}
+use Rattle.rules.specs.Bytes.{part, patch, allZero, bitSet}
+use Rattle.rules.proofs.ByteLaws.{part-all}
+use Rattle.rules.proofs.ListLaws.{if-true, if-false, if-cases}
+use Rattle.words.proofs.NumberLaws.{patch-whole}
+use Rattle.probe.specs.Probe.{copied, mapBits, countSet, allClear}
+
+-- a test of the part that is the whole is a test of the whole
+pub whole-zero : (s : List ℕ) (r : Bool) → r ≡ allZero (part 0 (length s - 0) s) → r ≡ allZero s
+whole-zero s r e = e ∙ rw (sub-zero (length s), part-all s (length s) (le-refl (length s))) refl
+
+-- buffers of one length
+pub copied-yes : (s x t : List ℕ) → t ≡ patch s 0 x → length s ≡ length x → t ≡ copied s x
+unfolding copied
+copied-yes s x t e l =
+    e ∙ patch-whole s x (sym l) ∙ sym (if-true (eqb (length s) (length x)) x s (eq-eqb (length s) (length x) l))
+
+-- buffers of two lengths
+pub copied-no : (s x : List ℕ) → (length s ≡ length x → ⊥) → s ≡ copied s x
+unfolding copied
+copied-no s x n = sym (if-false (eqb (length s) (length x)) x s (ne-eqb (length s) (length x) n))
+
+-- a map that a store may have, and one that is too long
+pub bits-yes : (map : List ℕ) → length map ≤ 8192 → 8 * length map ≡ mapBits map
+unfolding mapBits
+bits-yes map h = sym (if-true (leb (length map) 8192) (8 * length map) 0 (le-leb (length map) 8192 h))
+
+pub bits-no : (map : List ℕ) → 8192 < length map → 0 ≡ mapBits map
+unfolding mapBits
+bits-no map h = sym (if-false (leb (length map) 8192) (8 * length map) 0 (lt-leb (length map) 8192 h))
+
+-- they lie in the map
+pub bits-inside : (map : List ℕ) (n : ℕ) → n ≡ mapBits map → n ≤ 8 * length map
+unfolding mapBits
+bits-inside map n e =
+    rw e (if-cases (λ m. m ≤ 8 * length map) (leb (length map) 8192) (8 * length map) 0 (λ q. omega arith) (λ q. omega arith))
+
+-- what the functions over a range say of all of them
+pub counted : (map : List ℕ) (n r : ℕ) → n ≡ mapBits map → r ≡ count (bitSet map) (range 0 (n - 0)) → r ≡ countSet map
+unfolding countSet
+counted map n r e q = q ∙ rw (sub-zero n, e) refl
+
+pub cleared : (map : List ℕ) (n : ℕ) (r : Bool) → n ≡ mapBits map → r ≡ all (λ k. not (bitSet map k)) (range 0 (n - 0)) → r ≡ allClear map
+unfolding allClear
+cleared map n r e q = q ∙ rw (sub-zero n, e) refl
