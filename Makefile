@@ -12,7 +12,7 @@ test:
 # The proved functions against plain Rust, as ratios, in one run.
 bench:
 	rt staticlib probe
-	cargo run --release --offline --quiet --manifest-path host/bench/Cargo.toml
+	cargo run --release --offline --quiet --manifest-path host/probe/Cargo.toml --bin bench
 
 clean:
-	rm -rf target host/target host/bench/target
+	rm -rf target host/target host/probe/target

@@ -2,11 +2,11 @@
 -- and a step of the long division is a step of the register.
 -- Assumes nothing.
 use mathlib.Core.Path.{_≡_, refl, sym, ap, ap₂, _∙_}
-use mathlib.Core.List.{List, [], _∷_, _++_, map, flatMap, reverse, append-assoc}
-use Prim.Native.Nat.{ℕ, zero, suc, _+_, _-_, _*_, _/_, _%_, _^_, _≤_, _<_}
+use mathlib.Core.List.{List, [], _∷_, _++_, map, flatMap}
+use Prim.Native.Nat.{ℕ, zero, suc, _+_, _-_, _*_, _/_, _%_, _^_, _<_}
 use native.Mathlib.Nat.{pow-suc, mul-assoc, mul-comm, add-zero, zero-add, suc-add, add-comm, mul-zero, one-mul, zero-mul}
 use native.Mathlib.Omega.{arith}
-use lib.ListN.{length, getD, take, drop, replicate, length-append}
+use lib.ListN.{length, getD, take, drop, replicate}
 use lib.Pow.{pow-pos, pow-add}
 use lib.Bits.{bitXor, xor-zero-l, xor-zero-r, xor-comm, xor-lt}
 use Rattle.rules.specs.Bytes.{le, Bytes}

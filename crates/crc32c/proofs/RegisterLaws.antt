@@ -124,7 +124,7 @@ turns-entry y = turns-byte 0 y ∙ ap (λ (x : ℕ). bitXor x (y / 256)) (sym (e
 -- what the code looks up for the k + 1 bytes of w, in the tables from number n on
 abbrev pub looked : List ℕ → ℕ → ℕ → ℕ → ℕ
 looked t n zero w = getD t (256 * n + w) 0
-looked t n (suc k) w = bitXor (getD t (256 * n + (256 * suc k + w % 256)) 0) (looked t n k (w / 256))
+looked t n (suc k) w = bitXor (looked t n k (w / 256)) (getD t (256 * n + (256 * suc k + w % 256)) 0)
 
 looked-turns : (t : List ℕ) (n k w : ℕ) → Tables t → n + k < 16 → w < 256 ^ suc k → looked t n k w ≡ turns (8 + 8 * (n + k)) w
 looked-turns t n zero w z l h =
@@ -136,7 +136,8 @@ looked-turns t n (suc k) w z l h =
     let e : 8 * (n + suc k) ≡ 8 + 8 * (n + k) = omega arith in
     let a : getD t (256 * n + (256 * suc k + w % 256)) 0 ≡ turns (8 + 8 * (n + suc k)) (w % 256) =
     rw i (z .holds (256 * (n + suc k) + w % 256) (omega arith) ∙ entry-at (n + suc k) (w % 256) (omega arith)) in
-    ap₂ bitXor a (looked-turns t n k (w / 256) z (omega arith) (omega arith) ∙ ap (λ (j : ℕ). turns j (w / 256)) (sym e))
+    ap₂ bitXor (looked-turns t n k (w / 256) z (omega arith) (omega arith) ∙ ap (λ (j : ℕ). turns j (w / 256)) (sym e)) a
+    ∙ xor-comm (turns (8 * (n + suc k)) (w / 256)) (turns (8 + 8 * (n + suc k)) (w % 256))
     ∙ sym (turns-byte (8 * (n + suc k)) w)
 
 -- ---- in the shape of the functions' needs
@@ -150,10 +151,10 @@ word-law t n w z l h =
     rw e (looked-turns t n 7 w z (omega arith) h)
 
 -- sixteen bytes: the register is put into the lower word
-pub pair-law : (x y lo hi : ℕ) → x ≡ turns (64 + 8 * 8) lo → y ≡ turns (64 + 8 * 0) hi → lo < 2 ^ 64 → bitXor x y ≡ turns 128 (lo + 2 ^ 64 * hi)
+pub pair-law : (x y lo hi : ℕ) → x ≡ turns (64 + 8 * 8) lo → y ≡ turns (64 + 8 * 0) hi → lo < 2 ^ 64 → bitXor y x ≡ turns 128 (lo + 2 ^ 64 * hi)
 pair-law x y lo hi p q h =
     let e : lo + 2 ^ 64 * hi ≡ hi * 2 ^ 64 + lo = omega arith in
-    rw (p, q, e) (sym (turns-split 64 64 lo hi h))
+    xor-comm y x ∙ rw (p, q, e) (sym (turns-split 64 64 lo hi h))
 
 -- the loop over the sixteens: at its start, and after a turn
 pub none-fed : (s : List ℕ) (r : ℕ) → r ≡ fed r (take 0 s)

@@ -1,8 +1,8 @@
 -- A running checksum in the shape of its callers' needs: begun, fed in parts and finished it is the checksum of the parts' concatenation.
 -- Assumes nothing.
-use mathlib.Core.Path.{_≡_, refl, sym, ap, _∙_}
-use mathlib.Core.List.{List, [], _∷_, _++_, append-assoc}
-use Prim.Native.Nat.{ℕ, _+_}
+use mathlib.Core.Path.{_≡_, refl, sym, _∙_}
+use mathlib.Core.List.{List, _++_, append-assoc}
+use Prim.Native.Nat.{ℕ}
 use native.Mathlib.Omega.{arith}
 use lib.ListN.{length, length-append}
 use Rattle.rules.specs.Bytes.{beDigits, patch, Bytes}
@@ -48,7 +48,6 @@ numbers z x y p object unit valid n e f g =
     let a : y ≡ patch z 0 (beDigits 8 object ++ beDigits 8 unit) = f ∙ rw e (patch-patch z 0 8 (beDigits 8 object) (beDigits 8 unit) (omega arith) (omega arith)) in
     g ∙ rw a (patch-patch z 0 16 (beDigits 8 object ++ beDigits 8 unit) (beDigits 4 valid) (omega arith) (omega arith)) ∙ patch-whole z (beDigits 8 object ++ beDigits 8 unit ++ beDigits 4 valid) lmk
 
--- the state that was fed all of it
 pub unit-begun : (uuid z x y p : List ℕ) (object unit valid b c r : ℕ) → length z ≡ 20 → x ≡ patch z 0 (beDigits 8 object) → y ≡ patch x 8 (beDigits 8 unit) → p ≡ patch y 16 (beDigits 4 valid)
     → b ≡ begun → c ≡ fed b uuid → r ≡ fed c p → r ≡ fed begun (before uuid object unit valid)
 unit-begun uuid z x y p object unit valid b c r n e f g hb hc hr =

@@ -12,7 +12,7 @@ use lib.Bits.{bitXor, xor-comm}
 use lib.Dec.{T, eqb, eqb→eq}
 use lib.ListN.{length, getD, take, drop, length-take, length-drop}
 use lib.Seq.{getD-take, getD-drop}
-use Rattle.crc32c.specs.Register.{turn, turns, entry, Tables}
+use Rattle.crc32c.specs.Register.{turns, entry, Tables}
 use Rattle.crc32c.proofs.RegisterLaws.{turns-add, turns-entry}
 
 and-left : (a b : Bool) → T (a && b) → T a

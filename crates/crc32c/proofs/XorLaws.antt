@@ -4,7 +4,7 @@ use mathlib.Core.Path.{_≡_, refl, sym, ap, _∙_}
 use Prim.Native.Nat.{ℕ, zero, suc, _+_, _*_, _/_, _%_, _<_}
 use native.Mathlib.Nat.{mod-add-mod, add-mod-mod, add-assoc}
 use native.Mathlib.Omega.{arith}
-use lib.Arith.{bin-ind, digits-mod}
+use lib.Arith.{bin-ind}
 use lib.Bits.{bitXor, differ, xor-step, xor-comm, xor-zero-l, xor-shr}
 
 -- of two bits, the sum without its carry

@@ -55,6 +55,7 @@ const READ_10: [u8; 48] = [
     0x00,
 ];
 
+// 00 up to 1f.
 const UP: [u8; 32] = [
     0,
     1,
@@ -90,6 +91,7 @@ const UP: [u8; 32] = [
     31,
 ];
 
+// 1f down to 00.
 const DOWN: [u8; 32] = [
     31,
     30,
@@ -125,6 +127,7 @@ const DOWN: [u8; 32] = [
     0,
 ];
 
+// A uuid whose bytes all differ.
 const UUID: [u8; 16] = [
     0xf0,
     0xf1,
@@ -144,19 +147,21 @@ const UUID: [u8; 16] = [
     0xff,
 ];
 
+// A name and a checksum.
 fn crc_line(name: &[u8], crc: u32) {
     io::write_all(STDOUT_FILENO, name);
     io::print_hex(STDOUT_FILENO, crc as u64, 8);
     io::write_all(STDOUT_FILENO, b"\n");
 }
 
+// A name and a number.
 fn number_line(name: &[u8], n: u64) {
     io::write_all(STDOUT_FILENO, name);
     io::print_decimal(STDOUT_FILENO, n);
     io::write_all(STDOUT_FILENO, b"\n");
 }
 
-// Each byte as two hexadecimal digits.
+// A name, and each byte as two hexadecimal digits.
 fn bytes_line(name: &[u8], s: &[u8]) {
     io::write_all(STDOUT_FILENO, name);
     let mut i: usize = 0;
@@ -167,6 +172,7 @@ fn bytes_line(name: &[u8], s: &[u8]) {
     io::write_all(STDOUT_FILENO, b"\n");
 }
 
+// The five of B.4.
 fn rfc_3720() {
     crc_line(b"32 bytes of 00: ", crc32c::checksum(&[0u8; 32]));
     crc_line(b"32 bytes of ff: ", crc32c::checksum(&[0xffu8; 32]));
@@ -175,6 +181,7 @@ fn rfc_3720() {
     crc_line(b"Read (10): ", crc32c::checksum(&READ_10));
 }
 
+// The check value again, fed in two parts.
 fn in_parts() {
     let t = crc32c::tables();
     let c = crc32c::feed(&t, crc32c::begin(), b"1234");
@@ -184,6 +191,7 @@ fn in_parts() {
     );
 }
 
+// 64 bits in both orders.
 fn numbers() {
     let mut s = [0u8; 8];
     words::put_be64(&mut s, 0, 0x0102_0304_0506_0708);
@@ -193,6 +201,7 @@ fn numbers() {
     bytes_line(b"le64: ", &s);
 }
 
+// 32 bits in both orders.
 fn narrow_numbers() {
     let mut s = [0u8; 4];
     words::put_le32(&mut s, 0, 0x0102_0304);
@@ -200,6 +209,7 @@ fn narrow_numbers() {
     number_line(b"be32 of it: ", words::be32(&s, 0) as u64);
 }
 
+// A head whose `extents` lies across the two words.
 fn head() {
     let mut s = [0u8; 12];
     words::field::put_head(
@@ -219,6 +229,7 @@ fn head() {
     number_line(b"extents of it: ", h.extents);
 }
 
+// A card whose `allocated` and `seconds` lie across two words.
 fn card() {
     let mut s = [0u8; 32];
     words::field::put_card(
@@ -239,6 +250,7 @@ fn card() {
     number_line(b"seconds of it: ", c.seconds);
 }
 
+// A map of 96 bits: a range set in single bits and in words, and one bit of it cleared.
 fn bits() {
     let mut m = [0u8; 12];
     bitmap::set_range(&mut m, 3, 85);

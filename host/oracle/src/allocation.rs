@@ -3,6 +3,7 @@
 
 use std::collections::BTreeSet;
 
+use crate::device::Image;
 use crate::format::Page;
 use crate::tree::{Edge, Forest, Root};
 use crate::{BlockDevice, Error, Result};
@@ -77,4 +78,33 @@ impl<'a, D: BlockDevice> Transaction<'a, D> {
                 .collect(),
         }
     }
+}
+
+/// `allocate_data` alone: what it gives for the units of one call that want
+/// so many blocks each, and the hint after each. The first unit for which too
+/// few are left ends the list.
+pub(crate) fn allocate(
+    used: &[u8],
+    blocks: u64,
+    hint: u64,
+    wanted: &[u64],
+) -> Vec<(Vec<u64>, u64)> {
+    let uuid = [0; 16];
+    let base = Root { uuid, blocks };
+    let mut device = Image::new(&[]);
+    let mut transaction = Transaction::new(&mut device, &base, Edge::default(), used);
+    let mut hint = hint;
+    let mut units = Vec::new();
+    for &count in wanted {
+        let Ok(runs) = transaction.allocate_data(count, hint) else {
+            break;
+        };
+        let found: Vec<u64> = runs
+            .iter()
+            .flat_map(|(start, n)| *start..start + n)
+            .collect();
+        hint = found.last().map_or(hint, |last| last / GROUP);
+        units.push((found, hint));
+    }
+    units
 }

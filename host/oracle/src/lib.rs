@@ -22,6 +22,7 @@
 use std::io::Write;
 
 mod answer;
+pub mod parts;
 pub use answer::{Error, OracleAnswer, Outcome};
 
 #[cfg(carryfs)]

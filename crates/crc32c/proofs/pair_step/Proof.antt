@@ -1,20 +1,16 @@
+-- `crc32c::pair_step` meets its contract.
+-- Assumes nothing.
 use Rattle.crc32c.proofs.RegisterLaws.{pair-law}
 use borrow.Author.Needs.{needs}
 use Rattle.crc32c.proofs.pair_step.Statement.{statement}
 use Rattle.crc32c.proofs.pair_step.Tie as tie
-use Rattle.crc32c.proofs.pair_step.Reads as reads
-use Rattle.crc32c.proofs.pair_step.Lts as lts
-use Rattle.crc32c.proofs.word_step.Reads as word-step-reads
 
--- src/lib.rt:572:5
 word-step-requires : tie.Need-word-step-requires
 word-step-requires c κs = search needs
 
--- src/lib.rt:572:27
 word-step-requires-2 : tie.Need-word-step-requires-2
 word-step-requires-2 c κs = search needs
 
--- src/lib.rt:568:1
 returns : tie.Need-returns
 returns c = search (pair-law, needs)
 

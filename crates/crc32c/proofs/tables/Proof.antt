@@ -1,13 +1,11 @@
+-- `crc32c::tables` meets its contract.
+-- Assumes nothing.
 use mathlib.Core.Path.{refl}
 use Rattle.crc32c.specs.Register.{turn, turns, entry}
 use Rattle.crc32c.proofs.TableRule.{is-tables, entries, follows}
-use borrow.Author.Needs.{needs}
 use Rattle.crc32c.proofs.tables.Statement.{statement}
 use Rattle.crc32c.proofs.tables.Tie as tie
-use Rattle.crc32c.proofs.tables.Reads as reads
-use Rattle.crc32c.proofs.tables.Lts as lts
 
--- src/lib.rt:530:1
 returns : tie.Need-returns
 unfolding entries follows entry turns turn
 returns c = is-tables _ refl tt tt

@@ -1,30 +1,22 @@
+-- `crc32c::unit_checksum_with` meets its contract.
+-- Assumes nothing.
 use Rattle.crc32c.proofs.Running.{crc-unit}
 use borrow.Author.Needs.{needs}
 use Rattle.crc32c.proofs.unit_checksum_with.Statement.{statement}
 use Rattle.crc32c.proofs.unit_checksum_with.Tie as tie
-use Rattle.crc32c.proofs.unit_checksum_with.Reads as reads
-use Rattle.crc32c.proofs.unit_checksum_with.Lts as lts
-use Rattle.crc32c.proofs.begin_unit.Reads as begin-unit-reads
-use Rattle.crc32c.proofs.feed.Reads as feed-reads
-use Rattle.crc32c.proofs.finish.Reads as finish-reads
 
--- src/lib.rt:656:47
 cast-begin-unit : tie.Need-cast-begin-unit
 cast-begin-unit c = search needs
 
--- src/lib.rt:656:9
 begin-unit-requires : tie.Need-begin-unit-requires
 begin-unit-requires c κs = search needs
 
--- src/lib.rt:657:12
 feed-requires : tie.Need-feed-requires
 feed-requires c κs = search needs
 
--- src/lib.rt:657:5
 finish-requires : tie.Need-finish-requires
 finish-requires c κs = search needs
 
--- src/lib.rt:651:1
 returns : tie.Need-returns
 returns c = crc-unit (c .before .before .before .before .before .args .uuid .now) (c .before .before .before .before .before .args .s .now) (c .before .before .before .before .before .args .object) (c .before .before .before .before .before .args .unit) _ _ _ (c .before .before .begin-unit .ensures) (c .before .feed .ensures) (c .finish .ensures) (λ k. c .before .before .before .before .shared-slice-known .given k .fits) (λ k. c .before .before .before .shared-slice-known2 .given k .fits)
 

@@ -3,9 +3,9 @@
 
 mod measure;
 mod plain;
-mod proved;
 
 use measure::{pair, speeds, times};
+use probe as proved;
 use std::hint::black_box;
 use std::time::Duration;
 

@@ -1,4 +1,5 @@
-//! The probes of `crates/probe`, each behind a safe function: slices pass as a pointer and a length, and none of them asks anything of its caller.
+//! The probes of `crates/probe`, each behind a safe function: slices pass as a
+//! pointer and a length, and no probe asks anything of its caller.
 
 mod probe {
     unsafe extern "C" {
@@ -10,7 +11,8 @@ mod probe {
     }
 }
 
-// SAFETY of each: the pointers and lengths are those of slices that live through the call.
+// SAFETY of each: the pointers and lengths are those of slices that live
+// through the call, and no two of one call overlap.
 
 pub fn crc32c(bytes: &[u8]) -> u32 {
     unsafe { probe::sangueko_probe_crc32c(bytes.as_ptr(), bytes.len()) }
