@@ -20,3 +20,5 @@ pub mod OutcomeLaws
 pub mod FreshLaws
 pub mod EnterLaws
 pub mod SettleLaws
+pub mod CountLaws
+pub mod AllocationLaws

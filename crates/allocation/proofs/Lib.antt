@@ -1,0 +1,6 @@
+pub mod SearchLaws
+pub mod GroupLaws
+pub mod SortLaws
+pub mod FoundLaws
+pub mod AnswerLaws
+pub mod MarkLaws

@@ -1,0 +1,13 @@
+// A book: records of one width side by side in a lent slice, ordered and packed, with their number beside it.
+//
+// `find` has the searches, `order` the tests of a book, `splice` the exchange of records. The searches scan; what they promise of an ordered
+// book would hold of a search by halves too.
+pub mod find;
+pub mod order;
+pub mod splice;
+
+// The place of a record that was found.
+pub enum Found {
+    At(usize),
+    Nothing,
+}

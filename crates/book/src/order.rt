@@ -1,0 +1,135 @@
+// The tests of a book: its records ascend, extents of one file keep clear of each other, and zeros stand behind the last record.
+ghost use mathlib.Core.Path.{_≡_};
+ghost use mathlib.Core.Bool.{_&&_};
+ghost use Prim.Native.Nat.{_+_, _-_, _*_, _≤_, _<_};
+ghost use lib.ListN.{length, drop};
+ghost use Rattle.rules.specs.Bytes.{allZero};
+ghost use Rattle.rules.specs.Lists.{ascending};
+ghost use Rattle.rules.specs.Card.{cardBytes, decodeCard, cardBefore};
+ghost use Rattle.rules.specs.Extent.{extentBytes, decodeExtent, extentBefore};
+ghost use Rattle.rules.specs.Group.{groupBytes, decodeGroup, groupBefore};
+ghost use Rattle.rules.specs.Book.{decodeBook, zeroBehind};
+ghost use Rattle.rules.specs.Integrity.{clear};
+ghost use Rattle.format.specs.Records.{extentOf};
+ghost use Rattle.book.specs.Places.{recordAt, follows};
+use format::extent::Extent;
+
+// Whether zeros stand behind the first `used` bytes.
+fn zero_from(s: &[u8], used: usize) -> bool
+    requires { ⌜ used ≤ length (now s) ⌝ }
+    ensures { λ r. ⌜ r ≡ allZero (drop used (now (s .entry))) ⌝ }
+{
+    words::range::is_zero(s, used, s.len())
+}
+
+// Whether zeros stand behind the last of `n` cards.
+pub fn cards_packed(s: &[u8], n: usize) -> bool
+    requires { ⌜ cardBytes * n ≤ length (now s) ⌝ }
+    ensures { λ r. ⌜ r ≡ zeroBehind cardBytes n (now (s .entry)) ⌝ }
+{
+    zero_from(s, 32 * n)
+}
+
+// Whether zeros stand behind the last of `n` extents.
+pub fn extents_packed(s: &[u8], n: usize) -> bool
+    requires { ⌜ extentBytes * n ≤ length (now s) ⌝ }
+    ensures { λ r. ⌜ r ≡ zeroBehind extentBytes n (now (s .entry)) ⌝ }
+{
+    zero_from(s, 33 * n)
+}
+
+// Whether zeros stand behind the last of `n` groups.
+pub fn groups_packed(s: &[u8], n: usize) -> bool
+    requires { ⌜ groupBytes * n ≤ length (now s) ⌝ }
+    ensures { λ r. ⌜ r ≡ zeroBehind groupBytes n (now (s .entry)) ⌝ }
+{
+    zero_from(s, 1073 * n)
+}
+
+// Whether the card at place `i` follows the one before it.
+fn card_follows(s: &[u8], i: usize) -> bool
+    requires { ⌜ 0 < i ⌝ }
+    requires { ⌜ cardBytes * i + cardBytes ≤ length (now s) ⌝ }
+    ensures { λ r. ⌜ r ≡ cardBefore (recordAt decodeCard cardBytes (now (s .entry)) (i - 1)) (recordAt decodeCard cardBytes (now (s .entry)) i) ⌝ }
+{
+    let c = format::card::decode_card(s, 32 * (i - 1));
+    let d = format::card::decode_card(s, 32 * i);
+    c.before(d)
+}
+
+// Whether the first `n` cards ascend by object.
+pub fn cards_ordered(s: &[u8], n: usize) -> bool
+    requires { ⌜ cardBytes * n ≤ length (now s) ⌝ }
+    ensures { λ r. ⌜ r ≡ ascending cardBefore (decodeBook decodeCard cardBytes n (now (s .entry))) ⌝ }
+{
+    let mut i: usize = 1;
+    while i < n {
+        if !card_follows(s, i) {
+            return false;
+        }
+        i += 1;
+    }
+    true
+}
+
+// Whether the group at place `i` follows the one before it.
+fn group_follows(s: &[u8], i: usize) -> bool
+    requires { ⌜ 0 < i ⌝ }
+    requires { ⌜ groupBytes * i + groupBytes ≤ length (now s) ⌝ }
+    ensures { λ r. ⌜ r ≡ groupBefore (recordAt decodeGroup groupBytes (now (s .entry)) (i - 1)) (recordAt decodeGroup groupBytes (now (s .entry)) i) ⌝ }
+{
+    let a = 1073 * (i - 1);
+    let b = 1073 * i;
+    format::key::before(
+        format::group::group_object(s, a),
+        format::group::group_number(s, a),
+        format::group::group_object(s, b),
+        format::group::group_number(s, b),
+    )
+}
+
+// Whether the first `n` groups ascend by key.
+pub fn groups_ordered(s: &[u8], n: usize) -> bool
+    requires { ⌜ groupBytes * n ≤ length (now s) ⌝ }
+    ensures { λ r. ⌜ r ≡ ascending groupBefore (decodeBook decodeGroup groupBytes n (now (s .entry))) ⌝ }
+{
+    let mut i: usize = 1;
+    while i < n {
+        if !group_follows(s, i) {
+            return false;
+        }
+        i += 1;
+    }
+    true
+}
+
+// Whether an extent stands before the next and keeps clear of it.
+fn extent_follows(e: Extent, next: Extent) -> bool
+    ensures { λ r. ⌜ r ≡ follows (extentOf e) (extentOf next) ⌝ }
+{
+    if !e.before(next) {
+        return false;
+    }
+    e.clear(next)
+}
+
+// Whether the first `n` extents ascend by key and keep clear of each other. Each is decoded once: the one before is kept.
+pub fn extents_ordered(s: &[u8], n: usize) -> bool
+    requires { ⌜ extentBytes * n ≤ length (now s) ⌝ }
+    ensures { λ r. ⌜ r ≡ (ascending extentBefore (decodeBook decodeExtent extentBytes n (now (s .entry))) && ascending clear (decodeBook decodeExtent extentBytes n (now (s .entry)))) ⌝ }
+{
+    if n == 0 {
+        return true;
+    }
+    let mut last = format::extent::decode_extent(s, 0);
+    let mut i: usize = 1;
+    while i < n {
+        let next = format::extent::decode_extent(s, 33 * i);
+        if !extent_follows(last, next) {
+            return false;
+        }
+        last = next;
+        i += 1;
+    }
+    true
+}

@@ -1,0 +1,4 @@
+pub mod TestLaws
+pub mod RecordLaws
+pub mod SlotLaws
+pub mod RoundTrips

@@ -1,0 +1,51 @@
+-- `format::group::slot_right` meets its contract.
+-- Assumes nothing.
+use borrow.Author.Needs.{needs}
+use Rattle.format.proofs.SlotLaws.{right-present, right-absent}
+use Rattle.format.proofs.group.slot_right.Statement.{statement}
+use Rattle.format.proofs.group.slot_right.Tie as tie
+
+add-bit-at : tie.Need-add-bit-at
+add-bit-at c = search needs
+
+add-bit-at-2 : tie.Need-add-bit-at-2
+add-bit-at-2 c = search needs
+
+shared-slice-read-bit-at : tie.Need-shared-slice-read-bit-at
+shared-slice-read-bit-at c = search needs
+
+bit-at-requires : tie.Need-bit-at-requires
+bit-at-requires c κs = search needs
+
+returns : tie.Need-returns
+returns c = search (right-present, needs)
+
+add-le32 : tie.Need-add-le32
+add-le32 c = search needs
+
+mul-le32 : tie.Need-mul-le32
+mul-le32 c = search needs
+
+add-le32-2 : tie.Need-add-le32-2
+add-le32-2 c = search needs
+
+le32-requires : tie.Need-le32-requires
+le32-requires c κs = search needs
+
+returns-2 : tie.Need-returns-2
+returns-2 c = search (right-absent, needs)
+
+pub slot-right-spec : {M : Type 1} → statement M
+slot-right-spec =
+    tie.close
+    (tie.spec
+    add-bit-at
+    add-bit-at-2
+    shared-slice-read-bit-at
+    bit-at-requires
+    returns
+    add-le32
+    mul-le32
+    add-le32-2
+    le32-requires
+    returns-2)
