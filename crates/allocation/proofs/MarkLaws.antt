@@ -60,8 +60,8 @@ unfolding pastHighest
 past-nothing blocks g = maybe-none 0 suc (highest blocks [] g) (highest-no blocks [] g (λ b p q. member-nil b))
 
 -- a call that has taken no block: the used map itself, and no cursors
-pub carried-none : (blocks : ℕ) (used : ℕ → Bool) (map : List ℕ) → ((b : ℕ) → b < blocks → bitSet map b ≡ used b) → blocks ≤ 65536 → Carried blocks used [] map (0 ∷ 0 ∷ 0 ∷ 0 ∷ [])
-carried-none blocks used map h m =
+pub carried-none : (blocks : ℕ) (used : ℕ → Bool) (map : List ℕ) → ((b : ℕ) → b < blocks → bitSet map b ≡ used b) → Carried blocks used [] map (0 ∷ 0 ∷ 0 ∷ 0 ∷ [])
+carried-none blocks used map h =
     record {
       bits = λ b l. h b l ∙ sym (ap (λ (t : Bool). used b || t) (member-nil b) ∙ or-false (used b));
       places = refl;

@@ -6,6 +6,10 @@ ghost use Rattle.rules.specs.Bytes.{allZero};
 ghost use Rattle.rules.specs.Crc32c.{crc32c};
 ghost use Rattle.probe.specs.Probe.{copied, mapBits, countSet, allClear};
 
+pub mod allocate;
+pub mod extents;
+pub mod group;
+
 // The CRC-32C of `bytes`.
 #[no_mangle]
 pub extern "C" fn sangueko_probe_crc32c(bytes: &[u8]) -> u32

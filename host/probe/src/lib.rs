@@ -8,6 +8,30 @@ mod probe {
         pub fn sangueko_probe_copy(to: *mut u8, to_len: usize, from: *const u8, from_len: usize);
         pub fn sangueko_probe_count_set(map: *const u8, len: usize) -> usize;
         pub fn sangueko_probe_all_clear(map: *const u8, len: usize) -> bool;
+        pub fn sangueko_probe_compact_group(group: *const u8, len: usize) -> usize;
+        pub fn sangueko_probe_checksum_slot(group: *const u8, len: usize, n: usize) -> u64;
+        pub fn sangueko_probe_set_checksum_slot(group: *mut u8, len: usize, n: usize, crc: u64);
+        pub fn sangueko_probe_extents_ordered(book: *const u8, len: usize) -> bool;
+        pub fn sangueko_probe_splice_extents(
+            book: *mut u8,
+            len: usize,
+            n: usize,
+            i: usize,
+            k: usize,
+            new: *const u8,
+            new_len: usize,
+        ) -> bool;
+        pub fn sangueko_probe_allocate(
+            map: *mut u8,
+            map_len: usize,
+            blocks: u64,
+            hint: u64,
+            past: *mut u8,
+            past_len: usize,
+            want: usize,
+            out: *mut u8,
+            out_len: usize,
+        ) -> usize;
     }
 }
 
@@ -32,4 +56,80 @@ pub fn count_set(map: &[u8]) -> usize {
 
 pub fn all_clear(map: &[u8]) -> bool {
     unsafe { probe::sangueko_probe_all_clear(map.as_ptr(), map.len()) }
+}
+
+/// A slot that is not present, as the probes say it.
+const ABSENT: u64 = 1 << 32;
+
+/// A group's record: 17 bytes of key, 32 presence bytes, 256 slots.
+pub type GroupRecord = [u8; 1073];
+
+pub fn compact_group(group: &GroupRecord) -> usize {
+    unsafe { probe::sangueko_probe_compact_group(group.as_ptr(), group.len()) }
+}
+
+pub fn checksum_slot(group: &GroupRecord, n: usize) -> Option<u32> {
+    let slot = unsafe { probe::sangueko_probe_checksum_slot(group.as_ptr(), group.len(), n) };
+    u32::try_from(slot).ok()
+}
+
+pub fn set_checksum_slot(group: &mut GroupRecord, n: usize, crc: Option<u32>) {
+    let slot = crc.map_or(ABSENT, u64::from);
+    unsafe { probe::sangueko_probe_set_checksum_slot(group.as_mut_ptr(), group.len(), n, slot) }
+}
+
+pub fn extents_ordered(book: &[u8]) -> bool {
+    unsafe { probe::sangueko_probe_extents_ordered(book.as_ptr(), book.len()) }
+}
+
+/// In a book of `n` extents, the `k` from place `i` on exchanged for `new`.
+pub fn splice_extents(book: &mut [u8], n: usize, i: usize, k: usize, new: &[u8]) -> bool {
+    let (to, len) = (book.as_mut_ptr(), book.len());
+    unsafe { probe::sangueko_probe_splice_extents(to, len, n, i, k, new.as_ptr(), new.len()) }
+}
+
+/// One call's allocations, unit after unit: a copy of the used map in which
+/// the blocks taken are set, and what is past the highest of each group.
+pub struct Call {
+    map: Vec<u8>,
+    blocks: u64,
+    hint: u64,
+    past: [u8; 32],
+}
+
+impl Call {
+    pub fn new(used: &[u8], blocks: u64, hint: u64) -> Self {
+        let past = [0; 32];
+        Self {
+            map: used.to_vec(),
+            blocks,
+            hint,
+            past,
+        }
+    }
+
+    /// The blocks of the next unit and the hint after it, or nothing where
+    /// fewer than wanted are free.
+    pub fn allocate(&mut self, want: usize) -> Option<(Vec<u64>, u64)> {
+        let mut out = [0u8; 136];
+        let found = unsafe {
+            probe::sangueko_probe_allocate(
+                self.map.as_mut_ptr(),
+                self.map.len(),
+                self.blocks,
+                self.hint,
+                self.past.as_mut_ptr(),
+                self.past.len(),
+                want,
+                out.as_mut_ptr(),
+                out.len(),
+            )
+        };
+        assert_ne!(found, 18, "the arguments do not fit");
+        let number = |at: usize| u64::from_le_bytes(out[8 * at..8 * at + 8].try_into().unwrap());
+        (found != 17).then(|| {
+            self.hint = number(16);
+            ((0..found).map(number).collect(), self.hint)
+        })
+    }
 }

@@ -29,6 +29,8 @@ fn main() {
     crc();
     ranges();
     maps();
+    book();
+    allocation();
 }
 
 fn crc() {
@@ -113,4 +115,82 @@ fn maps() {
         "all clear, 1,024 words, and Rust's word test",
         pair(ROUNDS, SPAN, ours, theirs),
     );
+}
+
+/// Ten thousand extents: 330,000 bytes, and one place more to splice into.
+fn book() {
+    let extent = |i: u64| plain::Extent {
+        object: 7,
+        logical: 3 * i,
+        physical: 2 * i,
+        count: 2,
+    };
+    let full: Vec<u8> = (0..10_000).flat_map(|i| plain::encode(extent(i))).collect();
+    assert!(proved::extents_ordered(&full) && plain::extents_ordered(&full));
+    let ours = || {
+        black_box(proved::extents_ordered(black_box(&full)));
+    };
+    let theirs = || {
+        black_box(plain::extents_ordered(black_box(&full)));
+    };
+    times(
+        "scan of 10,000 extents, and plain Rust",
+        pair(ROUNDS, SPAN, ours, theirs),
+    );
+
+    let mut spliced = full.clone();
+    spliced.extend([0; 33]);
+    let mut moved = spliced.clone();
+    let new = plain::encode(extent(5_000));
+    // In and out again, so that every turn starts from the same book.
+    let ours = || {
+        assert!(proved::splice_extents(
+            black_box(&mut spliced),
+            10_000,
+            5_000,
+            0,
+            &new
+        ));
+        assert!(proved::splice_extents(
+            black_box(&mut spliced),
+            10_001,
+            5_000,
+            1,
+            &[]
+        ));
+    };
+    let theirs = || {
+        let (from, end) = (5_000 * 33, 10_000 * 33);
+        black_box(&mut moved).copy_within(from..end, from + 33);
+        black_box(&mut moved)[from..from + 33].copy_from_slice(&new);
+        black_box(&mut moved).copy_within(from + 33..end + 33, from);
+        black_box(&mut moved)[end..].fill(0);
+    };
+    times(
+        "splice in and out of a 330,000-byte book, copy_within",
+        pair(ROUNDS, SPAN, ours, theirs),
+    );
+}
+
+/// The largest store, full but for its last word.
+fn allocation() {
+    let mut used = vec![0xffu8; 8192];
+    used[8184..].fill(0);
+    for (hint, name) in [(0, "from the first group"), (3, "from the last group")] {
+        let ours = || {
+            black_box(proved::Call::new(black_box(&used), 65_536, hint).allocate(16));
+        };
+        if !oracle::skipped("allocate_data") {
+            let theirs = || {
+                black_box(oracle::parts::allocate(
+                    black_box(&used),
+                    65_536,
+                    hint,
+                    &[16],
+                ));
+            };
+            let name = format!("allocate_data, full but 64 blocks, {name}");
+            times(&name, pair(ROUNDS, SPAN, ours, theirs));
+        }
+    }
 }

@@ -83,3 +83,53 @@ pub fn all_clear(map: &[u8]) -> bool {
     map.chunks_exact(8)
         .all(|word| u64::from_le_bytes(word.try_into().unwrap()) == 0)
 }
+
+/// An extent's record: object and logical block big-endian around a 3, then
+/// physical block and count little-endian, and four zeros.
+#[derive(Clone, Copy)]
+pub struct Extent {
+    pub object: u64,
+    pub logical: u64,
+    pub physical: u64,
+    pub count: u32,
+}
+
+pub fn encode(e: Extent) -> [u8; 33] {
+    let mut record = [0; 33];
+    record[..8].copy_from_slice(&e.object.to_be_bytes());
+    record[8] = 3;
+    record[9..17].copy_from_slice(&e.logical.to_be_bytes());
+    record[17..25].copy_from_slice(&e.physical.to_le_bytes());
+    record[25..29].copy_from_slice(&e.count.to_le_bytes());
+    record
+}
+
+fn decode(record: &[u8]) -> Extent {
+    Extent {
+        object: u64::from_be_bytes(record[..8].try_into().unwrap()),
+        logical: u64::from_be_bytes(record[9..17].try_into().unwrap()),
+        physical: u64::from_le_bytes(record[17..25].try_into().unwrap()),
+        count: u32::from_le_bytes(record[25..29].try_into().unwrap()),
+    }
+}
+
+/// Whether the extents ascend and those of one file keep clear of each other.
+pub fn extents_ordered(book: &[u8]) -> bool {
+    let mut records = book.chunks_exact(33).map(decode);
+    let Some(mut last) = records.next() else {
+        return true;
+    };
+    for next in records {
+        let before = (last.object, last.logical) < (next.object, next.logical);
+        let clear = last.object != next.object
+            || last
+                .logical
+                .checked_add(u64::from(last.count))
+                .is_some_and(|end| end <= next.logical);
+        if !before || !clear {
+            return false;
+        }
+        last = next;
+    }
+    true
+}

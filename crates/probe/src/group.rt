@@ -1,0 +1,52 @@
+// Checksum groups, for tests: a record of 1,073 bytes through the struct in hand. A record of another length, or a slot past the last, changes nothing
+// and answers as an absent slot does.
+use format::group::Slot;
+
+// The length that `compact_group` keeps of a group's value.
+#[no_mangle]
+pub extern "C" fn sangueko_probe_compact_group(group: &[u8]) -> usize {
+    if group.len() != 1073 {
+        return 0;
+    }
+    format::group::compact_group(format::group::decode_group(group, 0))
+}
+
+// The checksum in slot `n`, or 2^32 where none is present.
+#[no_mangle]
+pub extern "C" fn sangueko_probe_checksum_slot(group: &[u8], n: usize) -> u64 {
+    if group.len() != 1073 {
+        return 0x1_0000_0000;
+    }
+    if 256 <= n {
+        return 0x1_0000_0000;
+    }
+    let slot = format::group::checksum_slot_at(group, 0, n);
+    match slot {
+        Slot::Present(crc) => crc as u64,
+        Slot::Absent => 0x1_0000_0000,
+    }
+}
+
+// What a caller says of a slot: a checksum, or anything above 32 bits for none.
+fn slot_of(crc: u64) -> Slot {
+    if crc < 0x1_0000_0000 {
+        return Slot::Present(crc as u32);
+    }
+    Slot::Absent
+}
+
+// Slot `n` set, or cleared.
+#[no_mangle]
+pub extern "C" fn sangueko_probe_set_checksum_slot(group: &mut [u8], n: usize, crc: u64) {
+    if group.len() != 1073 {
+        return;
+    }
+    if 256 <= n {
+        return;
+    }
+    let object = format::group::group_object(group, 0);
+    let number = format::group::group_number(group, 0);
+    let g = format::group::decode_group(group, 0);
+    let changed = format::group::set_checksum_slot(g, n, slot_of(crc));
+    format::group::encode_group(group, 0, object, number, changed);
+}
