@@ -1,7 +1,7 @@
 -- Laws of the bits of a number: set, cleared and inverted, of a byte put together from its bits, of a word of bytes, and of the
 -- count of trailing zeros.
 -- Assumes nothing.
-use mathlib.Core.Path.{_≡_, refl, sym, ap, ap₂, _∙_}
+use mathlib.Core.Path.{_≡_, refl, sym, ap, _∙_}
 use mathlib.Core.Bool.{Bool, true, false, not, _&&_, _||_}
 use mathlib.Core.List.{List, [], _∷_}
 use Prim.Native.Nat.{ℕ, zero, suc, _+_, _-_, _*_, _/_, _%_, _^_, _≤_, _<_, max, min}
@@ -12,8 +12,8 @@ use borrow.Author.Tests.{eqb-true}
 use lib.Bits.{bitAnd, bitOr, and-shr, or-shr, and-step, or-step, or-lt, and-lt}
 use lib.Count.{trailingZeros, under}
 use lib.Dec.{eqb, eqb·zero-suc, eqb·suc-zero, eqb·suc-suc}
-use lib.ListN.{length, getD}
-use lib.Pow.{pow-pos, pow-lt, shl-exact, shr-shr}
+use lib.ListN.{getD}
+use lib.Pow.{pow-lt, shl-exact, shr-shr}
 use Rattle.rules.specs.Lists.{if_then_else_}
 use Rattle.rules.specs.Bytes.{le, Bytes, byteOf}
 use Rattle.bitmap.specs.Map.{bitOf, withBit, First}

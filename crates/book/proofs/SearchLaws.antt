@@ -11,7 +11,7 @@ use borrow.Author.Count.{below-more}
 use borrow.Author.Tests.{eq-eqb, ne-eqb, not-true, not-false}
 use lib.Dec.{eqb, leb, ltb}
 use lib.ListN.{length, getD}
-use Rattle.rules.specs.Lists.{if_then_else_, maybe, any, filter, pairBefore}
+use Rattle.rules.specs.Lists.{maybe, any, filter, pairBefore}
 use Rattle.rules.specs.Bytes.{part}
 use Rattle.rules.specs.Card.{cardBytes, decodeCard}
 use Rattle.rules.specs.Extent.{Extent, extentBytes, decodeExtent}

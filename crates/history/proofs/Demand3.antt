@@ -1,0 +1,10 @@
+-- Demand 3: after every list of calls on a store that fresh made, every read that is accepted gives the plain array's bytes, every block is in exactly one
+-- place, every card's count is right, and refusals 2, 9 to 12 and 14 never come.
+-- Assumes nothing.
+use Rattle.rules.specs.Demand.{Demand3}
+use Rattle.history.proofs.Invariant.{demand3-from-changes}
+use Rattle.history.proofs.Changes.{changes}
+
+-- one theorem about the whole list
+pub demand3 : Demand3
+demand3 = demand3-from-changes changes

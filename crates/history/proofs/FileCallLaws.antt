@@ -1,0 +1,254 @@
+-- The calls on a file, read, write and grow: what an accepted one did, and what is left to show that "2, 9 to 12 and 14" do not come.
+-- Assumes nothing.
+use mathlib.Core.Path.{_≡_, refl}
+use mathlib.Core.Logic.{_⊎_, inl, inr}
+use mathlib.Core.List.{List, [], _++_}
+use mathlib.Core.Bool.{false}
+use mathlib.Core.Option.{some}
+use Prim.Native.Nat.{ℕ, _+_, _%_, _≤_, _<_}
+use native.Mathlib.Omega.{arith}
+use lib.Dec.{eqb}
+use lib.ListN.{length, drop}
+use borrow.Author.Tests.{eqb-true, eqb-false, ltb-false}
+use Rattle.rules.specs.Lists.{any, member}
+use Rattle.rules.specs.Sizes.{unitBytes, mostSize, mostRuns}
+use Rattle.rules.specs.Bytes.{part}
+use Rattle.rules.specs.Card.{Card}
+use Rattle.rules.specs.Extent.{extentBytes}
+use Rattle.rules.specs.Group.{groupBytes}
+use Rattle.rules.specs.Store.{Store, Volume, decode, encodeInto, places, cardOf}
+use Rattle.rules.specs.Refusal.{Refusal, Outcome, numberOf, firstOf, result}
+use Rattle.rules.specs.Refusal.Refusal.{no-card}
+use Rattle.rules.specs.Refusal.Outcome.{refuse, accept}
+use Rattle.rules.specs.Units.{Change, clipped, writeChange, growChange, unitsOf, writeUnits, growUnits}
+use Rattle.rules.specs.Rewrite.{Rewritten, Progress, Plan, rewriteUnits}
+use Rattle.rules.specs.Rewrite.Plan.{refused, planned}
+use Rattle.rules.specs.Finish.{finished}
+use Rattle.rules.specs.Arguments.{pastLimit, belowSize}
+use Rattle.rules.specs.Write.{storeCases, withCard, groupsFull, extentsFull, fitCases, carriedOut, changed, writeFile, writeOutcome, growFile, growOutcome}
+use Rattle.rules.specs.Read.{Checked, readLength, checkUnits, handOut, readUnits, readFile, readOutcome}
+use Rattle.rules.specs.Read.Checked.{failed, bytes}
+use Rattle.rules.specs.Call.{call, lentOut, outcome}
+use Rattle.rules.specs.Call.Call.{read, write, grow}
+use Rattle.rules.specs.Demand.{neverNumbers}
+use Rattle.rules.proofs.ListLaws.{if-cases, maybe-cases, each-none, each-more}
+use Rattle.rules.proofs.PassLaws.{Passes}
+use Rattle.rules.proofs.OutcomeLaws.{firstOf-cases, never-zero, accepted-cases, through}
+use Rattle.rules.proofs.EnterLaws.{TimeRight, time-right}
+use Rattle.rules.proofs.SettleLaws.{store-passes}
+use Rattle.history.proofs.HistoryLaws.{Never, goes-on}
+
+-- ---- accepted calls
+
+-- the store passed refusals 1 and 2, the object has a card, and the call did with it what D says
+pub record FileCall (s : Store) (object : ℕ) (D : Card → Outcome → Type 0) (o : Outcome) : Type 0 where
+  pub passes : Passes s
+  pub card : Card
+  pub known : cardOf (decode s) object ≡ some card
+  pub done : D card o
+
+-- so it is with an accepted call on a file, where what it goes on with does what D says if it is accepted
+pub file-call : (s : Store) (out : List ℕ) (object : ℕ) (next : Card → Outcome) (D : Card → Outcome → Type 0)
+    → ((c : Card) → result s out (next c) .number ≡ 0 → D c (next c))
+    → result s out (firstOf (storeCases s) (withCard (decode s) object next)) .number ≡ 0 → FileCall s object D (firstOf (storeCases s) (withCard (decode s) object next))
+unfolding withCard
+file-call s out object next D h =
+    accepted-cases s out (FileCall s object D) (storeCases s) _
+    (λ n. maybe-cases (λ o. result s out o .number ≡ 0 → FileCall s object D o) (refuse no-card) next (cardOf (decode s) object)
+    (λ q e. absurd (never-zero s out no-card e)) (λ c q e. record { passes = store-passes s n; card = c; known = q; done = h c e }))
+
+-- the bytes that a read got: of its units checked, or none where it gets none
+pub record ReadBytes (offset : ℕ) (out : List ℕ) (s : Store) (c : Card) (o : Outcome) : Type 0 where
+  pub found : List ℕ
+  pub some : readLength (c .size) offset (length out) ≡ 0 → ⊥
+  pub checked : checkUnits (decode s) (c .object) (c .size) (unitsOf offset (offset + readLength (c .size) offset (length out))) ≡ bytes found
+  pub done : o ≡ accept (readLength (c .size) offset (length out)) s
+      (part (offset % unitBytes) (readLength (c .size) offset (length out)) found ++ drop (readLength (c .size) offset (length out)) out)
+
+-- bytes were handed out
+hand-out : (from n : ℕ) (s : Store) (out : List ℕ) (k : Checked) → result s out (handOut from n s out k) .number ≡ 0
+    → (xs : List ℕ) × (k ≡ bytes xs) × (handOut from n s out k ≡ accept n s (part from n xs ++ drop n out))
+unfolding handOut
+hand-out from n s out (failed r) e = absurd (never-zero s out r e)
+hand-out from n s out (bytes xs) e = (xs, refl, refl)
+
+-- an accepted read of a file
+pub read-file : (offset : ℕ) (out : List ℕ) (s : Store) (c : Card) → result s out (readFile offset s out c) .number ≡ 0
+    → ((readLength (c .size) offset (length out) ≡ 0) × (readFile offset s out c ≡ accept 0 s out)) ⊎ ReadBytes offset out s c (readFile offset s out c)
+unfolding readFile readUnits
+read-file offset out s c =
+    let n : ℕ = readLength (c .size) offset (length out) in
+    if-cases (λ o. result s out o .number ≡ 0 → ((n ≡ 0) × (o ≡ accept 0 s out)) ⊎ ReadBytes offset out s c o) (eqb n 0) (accept 0 s out) _
+    (λ q e. inl (eqb-true n 0 q, refl))
+    (λ q e. let h = hand-out (offset % unitBytes) n s out (checkUnits (decode s) (c .object) (c .size) (unitsOf offset (offset + n))) e in
+    inr (record { found = h .0; some = eqb-false n 0 q; checked = h .1; done = h .2 }))
+
+-- the planned units were carried out: the finished books fit, and the finished volume is what the buffers say
+pub record Carried (answer : ℕ) (c : Change) (seconds nanoseconds : ℕ) (s : Store) (k : Plan) (o : Outcome) : Type 0 where
+  pub units : List Rewritten
+  pub progress : Progress
+  pub plan : k ≡ planned units progress
+  pub groups : length (finished c seconds nanoseconds units progress (decode s) .books .groups) ≤ places groupBytes (s .groups)
+  pub extents : length (finished c seconds nanoseconds units progress (decode s) .books .extents) ≤ places extentBytes (s .extents)
+  pub done : o ≡ accept answer (encodeInto s (finished c seconds nanoseconds units progress (decode s))) []
+
+-- so it is with an accepted change
+carried : (answer : ℕ) (c : Change) (seconds nanoseconds : ℕ) (s : Store) (k : Plan) → result s [] (carriedOut answer c seconds nanoseconds s k) .number ≡ 0
+    → Carried answer c seconds nanoseconds s k (carriedOut answer c seconds nanoseconds s k)
+unfolding carriedOut fitCases groupsFull extentsFull
+carried answer c seconds nanoseconds s (refused r) e = absurd (never-zero s [] r e)
+carried answer c seconds nanoseconds s (planned rs p) e =
+    let v : Volume = finished c seconds nanoseconds rs p (decode s) in
+    let t = through s [] (fitCases v s) (accept answer (encodeInto s v) []) e in
+    record {
+      units = rs;
+      progress = p;
+      plan = refl;
+      groups = ltb-false (places groupBytes (s .groups)) (length (v .books .groups)) (t .none .0);
+      extents = ltb-false (places extentBytes (s .extents)) (length (v .books .extents)) (t .none .1 .0);
+      done = t .goesOn;
+    }
+
+-- the plan of a change, from what its first unit finds
+abbrev pub planOf : ℕ → (Change → List ℕ) → Change → Card → Store → Plan
+planOf limit units c card s = rewriteUnits limit (decode s) c (units c) (record { taken = []; hint = decode s .hint; allocated = card .allocated })
+
+-- a write that is not empty was carried out
+pub record Written (limit offset : ℕ) (xs : List ℕ) (seconds nanoseconds : ℕ) (s : Store) (c : Card) (o : Outcome) : Type 0 where
+  pub some : length xs ≡ 0 → ⊥
+  pub end : offset + length (clipped xs) ≤ mostSize
+  pub time : TimeRight seconds nanoseconds
+  pub carried : Carried (length (clipped xs)) (writeChange (c .object) (c .size) offset xs) seconds nanoseconds s
+      (planOf limit writeUnits (writeChange (c .object) (c .size) offset xs) c s) o
+
+-- an accepted write of a file
+pub write-file : (limit offset : ℕ) (xs : List ℕ) (seconds nanoseconds : ℕ) (s : Store) (c : Card)
+    → result s [] (writeFile limit offset xs seconds nanoseconds s c) .number ≡ 0
+    → ((length xs ≡ 0) × (writeFile limit offset xs seconds nanoseconds s c ≡ accept 0 s []))
+    ⊎ Written limit offset xs seconds nanoseconds s c (writeFile limit offset xs seconds nanoseconds s c)
+unfolding writeFile changed pastLimit
+write-file limit offset xs seconds nanoseconds s c =
+    let w : Change = writeChange (c .object) (c .size) offset xs in
+    let k : Plan = planOf limit writeUnits w c s in
+    let D : Outcome → Type 0 = λ o. ((length xs ≡ 0) × (o ≡ accept 0 s [])) ⊎ Written limit offset xs seconds nanoseconds s c o in
+    if-cases (λ o. result s [] o .number ≡ 0 → D o) (eqb (length xs) 0) (accept 0 s []) _
+    (λ q e. inl (eqb-true (length xs) 0 q, refl))
+    (λ q. accepted-cases s [] D _ (carriedOut (length (clipped xs)) w seconds nanoseconds s k)
+    (λ n e. inr (record {
+      some = eqb-false (length xs) 0 q;
+      end = ltb-false mostSize (offset + length (clipped xs)) (n .0);
+      time = time-right seconds nanoseconds (n .1 .0);
+      carried = carried (length (clipped xs)) w seconds nanoseconds s k e;
+    })))
+
+-- a grow that changes the size was carried out
+pub record Grown (size seconds nanoseconds : ℕ) (s : Store) (c : Card) (o : Outcome) : Type 0 where
+  pub more : c .size < size
+  pub end : size ≤ mostSize
+  pub time : TimeRight seconds nanoseconds
+  pub carried : Carried 0 (growChange (c .object) (c .size) size) seconds nanoseconds s (planOf mostRuns growUnits (growChange (c .object) (c .size) size) c s) o
+
+-- an accepted grow of a file
+pub grow-file : (size seconds nanoseconds : ℕ) (s : Store) (c : Card) → result s [] (growFile size seconds nanoseconds s c) .number ≡ 0
+    → ((size ≡ c .size) × (growFile size seconds nanoseconds s c ≡ accept 0 s [])) ⊎ Grown size seconds nanoseconds s c (growFile size seconds nanoseconds s c)
+unfolding growFile changed pastLimit belowSize
+grow-file size seconds nanoseconds s c =
+    let w : Change = growChange (c .object) (c .size) size in
+    let k : Plan = planOf mostRuns growUnits w c s in
+    let D : Outcome → Type 0 = λ o. ((size ≡ c .size) × (o ≡ accept 0 s [])) ⊎ Grown size seconds nanoseconds s c o in
+    accepted-cases s [] D _ _
+    (λ m. if-cases (λ o. result s [] o .number ≡ 0 → D o) (eqb size (c .size)) (accept 0 s []) _
+    (λ q e. inl (eqb-true size (c .size) q, refl))
+    (λ q. accepted-cases s [] D _ (carriedOut 0 w seconds nanoseconds s k)
+    (λ n e.
+    let d : size ≡ c .size → ⊥ = eqb-false size (c .size) q in
+    let l : c .size ≤ size = ltb-false size (c .size) (m .1 .0) in
+    inr (record {
+      more = omega arith;
+      end = ltb-false mostSize size (m .0);
+      time = time-right seconds nanoseconds (n .0);
+      carried = carried 0 w seconds nanoseconds s k e;
+    }))))
+
+-- an accepted read
+pub read-accepted : (object offset : ℕ) (out : List ℕ) (s : Store) → call (read object offset out) s .number ≡ 0
+    → FileCall s object (λ c o. ((readLength (c .size) offset (length out) ≡ 0) × (o ≡ accept 0 s out)) ⊎ ReadBytes offset out s c o) (outcome (read object offset out) s)
+unfolding call outcome lentOut readOutcome
+read-accepted object offset out s = file-call s out object (readFile offset s out) _ (read-file offset out s)
+
+-- an accepted write
+pub write-accepted : (object offset : ℕ) (xs : List ℕ) (seconds nanoseconds : ℕ) (s : Store) → call (write object offset xs seconds nanoseconds) s .number ≡ 0
+    → FileCall s object (λ c o. ((length xs ≡ 0) × (o ≡ accept 0 s [])) ⊎ Written mostRuns offset xs seconds nanoseconds s c o) (outcome (write object offset xs seconds nanoseconds) s)
+unfolding call outcome lentOut writeOutcome
+write-accepted object offset xs seconds nanoseconds s =
+    file-call s [] object (writeFile mostRuns offset xs seconds nanoseconds s) _ (write-file mostRuns offset xs seconds nanoseconds s)
+
+-- an accepted grow
+pub grow-accepted : (object size seconds nanoseconds : ℕ) (s : Store) → call (grow object size seconds nanoseconds) s .number ≡ 0
+    → FileCall s object (λ c o. ((size ≡ c .size) × (o ≡ accept 0 s [])) ⊎ Grown size seconds nanoseconds s c o) (outcome (grow object size seconds nanoseconds) s)
+unfolding call outcome lentOut growOutcome
+grow-accepted object size seconds nanoseconds s = file-call s [] object (growFile size seconds nanoseconds s) _ (grow-file size seconds nanoseconds s)
+
+-- ---- refusals that never come
+
+-- of a call on a file, where its object has a card
+never-file : (s : Store) (out : List ℕ) (object : ℕ) (next : Card → Outcome) → Passes s → ((c : Card) → cardOf (decode s) object ≡ some c → Never s out (next c))
+    → Never s out (firstOf (storeCases s) (withCard (decode s) object next))
+unfolding withCard result numberOf member any
+never-file s out object next p h =
+    rw (goes-on s (withCard (decode s) object next) p) (maybe-cases (Never s out) (refuse no-card) next (cardOf (decode s) object) (λ q. refl) h)
+
+-- of units that were checked: no unit fails
+never-hand : (from n : ℕ) (s : Store) (out : List ℕ) (k : Checked) → ((r : Refusal) → k ≡ failed r → ⊥) → Never s out (handOut from n s out k)
+unfolding handOut result member any
+never-hand from n s out (failed r) h = absurd (h r refl)
+never-hand from n s out (bytes xs) h = refl
+
+-- of a plan: no unit is refused with them
+never-carried : (answer : ℕ) (c : Change) (seconds nanoseconds : ℕ) (s : Store) (k : Plan) → ((r : Refusal) → k ≡ refused r → member (numberOf r) neverNumbers ≡ false)
+    → Never s [] (carriedOut answer c seconds nanoseconds s k)
+unfolding carriedOut fitCases result numberOf member any
+never-carried answer c seconds nanoseconds s (refused r) h = h r refl
+never-carried answer c seconds nanoseconds s (planned rs p) h = firstOf-cases (Never s []) _ (each-more (λ e. refl) (each-more (λ e. refl) each-none)) (λ n. refl)
+
+module _ (s : Store) (p : Passes s) where
+  -- read: no unit that it checks fails
+  pub never-read : (object offset : ℕ) (out : List ℕ)
+      → ((c : Card) → cardOf (decode s) object ≡ some c → (readLength (c .size) offset (length out) ≡ 0 → ⊥)
+      → (r : Refusal) → checkUnits (decode s) (c .object) (c .size) (unitsOf offset (offset + readLength (c .size) offset (length out))) ≡ failed r → ⊥)
+      → member (call (read object offset out) s .number) neverNumbers ≡ false
+  unfolding call outcome lentOut readOutcome readFile readUnits result member any
+  never-read object offset out h =
+      never-file s out object (readFile offset s out) p (λ c q.
+      if-cases (Never s out) (eqb (readLength (c .size) offset (length out)) 0) (accept 0 s out) _
+      (λ z. refl) (λ z. never-hand _ _ s out _ (h c q (eqb-false (readLength (c .size) offset (length out)) 0 z))))
+
+  -- write: no unit of its plan is refused with them
+  pub never-write : (object offset : ℕ) (xs : List ℕ) (seconds nanoseconds : ℕ)
+      → ((c : Card) → cardOf (decode s) object ≡ some c → (length xs ≡ 0 → ⊥) → offset + length (clipped xs) ≤ mostSize → TimeRight seconds nanoseconds
+      → (r : Refusal) → planOf mostRuns writeUnits (writeChange (c .object) (c .size) offset xs) c s ≡ refused r → member (numberOf r) neverNumbers ≡ false)
+      → member (call (write object offset xs seconds nanoseconds) s .number) neverNumbers ≡ false
+  unfolding call outcome lentOut writeOutcome writeFile changed pastLimit result numberOf member any
+  never-write object offset xs seconds nanoseconds h =
+      never-file s [] object (writeFile mostRuns offset xs seconds nanoseconds s) p (λ c q.
+      if-cases (Never s []) (eqb (length xs) 0) (accept 0 s []) _ (λ z. refl)
+      (λ z. firstOf-cases (Never s []) _ (each-more (λ e. refl) (each-more (λ e. refl) each-none))
+      (λ n. never-carried (length (clipped xs)) (writeChange (c .object) (c .size) offset xs) seconds nanoseconds s _
+      (h c q (eqb-false (length xs) 0 z) (ltb-false mostSize (offset + length (clipped xs)) (n .0)) (time-right seconds nanoseconds (n .1 .0))))))
+
+  -- grow: so too
+  pub never-grow : (object size seconds nanoseconds : ℕ)
+      → ((c : Card) → cardOf (decode s) object ≡ some c → c .size < size → size ≤ mostSize → TimeRight seconds nanoseconds
+      → (r : Refusal) → planOf mostRuns growUnits (growChange (c .object) (c .size) size) c s ≡ refused r → member (numberOf r) neverNumbers ≡ false)
+      → member (call (grow object size seconds nanoseconds) s .number) neverNumbers ≡ false
+  unfolding call outcome lentOut growOutcome growFile changed pastLimit belowSize result numberOf member any
+  never-grow object size seconds nanoseconds h =
+      never-file s [] object (growFile size seconds nanoseconds s) p (λ c q.
+      firstOf-cases (Never s []) _ (each-more (λ e. refl) (each-more (λ e. refl) each-none))
+      (λ m. if-cases (Never s []) (eqb size (c .size)) (accept 0 s []) _ (λ z. refl)
+      (λ z. firstOf-cases (Never s []) _ (each-more (λ e. refl) each-none)
+      (λ n.
+      let d : size ≡ c .size → ⊥ = eqb-false size (c .size) z in
+      let l : c .size ≤ size = ltb-false size (c .size) (m .1 .0) in
+      never-carried 0 (growChange (c .object) (c .size) size) seconds nanoseconds s _
+      (h c q (omega arith) (ltb-false mostSize size (m .0)) (time-right seconds nanoseconds (n .0)))))))

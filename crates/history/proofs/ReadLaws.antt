@@ -1,0 +1,141 @@
+-- A read gives the plain array's bytes where each unit of the file, read, is what the array has there: demand 3's claim of reads from one of units.
+-- Assumes nothing.
+use mathlib.Core.Path.{_≡_, refl, sym, ap, _∙_}
+use mathlib.Core.Logic.{_⊎_, inl, inr}
+use mathlib.Core.List.{List, _++_}
+use mathlib.Core.Bool.{false}
+use mathlib.Core.Option.{some}
+use Prim.Native.Nat.{ℕ, zero, suc, _+_, _-_, _*_, _/_, _%_, min, _≤_, _<_}
+use native.Mathlib.Omega.{arith}
+use lib.ListN.{length, take, drop, replicate, length-take, length-drop}
+use lib.Seq.{take-all, take-take}
+use Rattle.rules.specs.Lists.{range, begun, member}
+use Rattle.rules.specs.Sizes.{unitBytes, mostTransfer}
+use Rattle.rules.specs.Bytes.{part}
+use Rattle.rules.specs.Card.{Card}
+use Rattle.rules.specs.Store.{Store, Volume, decode, cardOf}
+use Rattle.rules.specs.Refusal.{Outcome, result}
+use Rattle.rules.specs.Refusal.Outcome.{accept}
+use Rattle.rules.specs.Units.{validLength, unitsOf}
+use Rattle.rules.specs.Inspect.{Inspected, inspectUnit}
+use Rattle.rules.specs.Inspect.Inspected.{hole, checked}
+use Rattle.rules.specs.Read.{readLength, follow, thenUnits, checkUnits}
+use Rattle.rules.specs.Read.Checked.{bytes}
+use Rattle.rules.specs.Call.{call, lentOut, outcome}
+use Rattle.rules.specs.Call.Call.{read}
+use Rattle.rules.specs.Plain.{File, fileBytes, plainRead}
+use Rattle.rules.specs.Demand.{PlainAnswer, neverNumbers}
+use Rattle.rules.specs.Answers.{checkedBytes}
+use Rattle.rules.proofs.ByteLaws.{part-none, part-add, part-part}
+use Rattle.rules.proofs.PassLaws.{Passes}
+use Rattle.history.proofs.FileCallLaws.{ReadBytes, read-accepted, never-read}
+
+-- what reading a unit finds is these bytes: a hole where they are zeros, or they themselves
+pub data UnitIs (xs : List ℕ) : Inspected → Type 0 where
+  is-hole : xs ≡ replicate (length xs) 0 → UnitIs xs hole
+  is-checked : {ys : List ℕ} → xs ≡ ys → UnitIs xs (checked ys)
+
+-- the units of a file, read, are its bytes
+abbrev pub FileIs : Volume → ℕ → List ℕ → Type 0
+FileIs v object xs = (u : ℕ) → u * unitBytes < length xs → UnitIs (part (u * unitBytes) unitBytes xs) (inspectUnit v object (length xs) u)
+
+-- such a unit's bytes come first
+then-is : {xs : List ℕ} {i : Inspected} (valid : ℕ) (ys : List ℕ) → UnitIs xs i → valid ≡ length xs → thenUnits valid i (bytes ys) ≡ bytes (xs ++ ys)
+unfolding thenUnits follow
+then-is {xs} valid ys (is-hole e) l = ap (λ (zs : List ℕ). bytes (zs ++ ys)) (ap (λ (n : ℕ). replicate n 0) l ∙ sym e)
+then-is {xs} valid ys (is-checked e) l = ap (λ (zs : List ℕ). bytes (zs ++ ys)) (sym e)
+
+-- a unit's valid length is that of the bytes that stand there
+valid-part : (xs : List ℕ) (u : ℕ) → validLength (length xs) u ≡ length (part (u * unitBytes) unitBytes xs)
+unfolding validLength part
+valid-part xs u = simp (length-take, length-drop) (omega arith)
+
+-- m units from f on, checked
+pub check-is : (v : Volume) (object : ℕ) (xs : List ℕ) → FileIs v object xs → (m f : ℕ) → ((u : ℕ) → f ≤ u → u < f + m → u * unitBytes < length xs)
+    → checkUnits v object (length xs) (range f m) ≡ bytes (part (f * unitBytes) (m * unitBytes) xs)
+unfolding checkUnits range
+check-is v object xs h zero f l = ap bytes (sym (part-none xs (f * unitBytes)))
+check-is v object xs h (suc m) f l =
+    let a : f * unitBytes + unitBytes ≡ suc f * unitBytes = omega arith in
+    let b : suc m * unitBytes ≡ unitBytes + m * unitBytes = omega arith in
+    let r : checkUnits v object (length xs) (range (suc f) m) ≡ bytes (part (suc f * unitBytes) (m * unitBytes) xs) =
+    check-is v object xs h m (suc f) (λ u p q. l u (omega arith) (omega arith)) in
+    rw r (then-is (validLength (length xs) f) (part (suc f * unitBytes) (m * unitBytes) xs) (h f (l f (omega arith) (omega arith))) (valid-part xs f)
+    ∙ ap bytes (rw (← a, b) (sym (part-add xs (f * unitBytes) unitBytes (m * unitBytes)))))
+
+-- the first k of a list are as many as there are
+take-cut : (n k : ℕ) (ys : List ℕ) → n ≡ min k (length ys) → take k ys ≡ take n ys
+take-cut n k ys e = sym (take-all n (take k ys) (simp length-take (omega arith))) ∙ take-take n k ys (omega arith)
+
+-- the plain array's bytes for a read are as many as a read gets
+pub plain-part : (xs : List ℕ) (offset room : ℕ) → plainRead xs offset room ≡ part offset (readLength (length xs) offset room) xs
+unfolding plainRead part readLength
+plain-part xs offset room =
+    take-cut (readLength (length xs) offset room) (min room mostTransfer) (drop offset xs) (simp length-drop (omega arith))
+
+-- and so many they are
+pub plain-length : (xs : List ℕ) (offset room : ℕ) → length (plainRead xs offset room) ≡ readLength (length xs) offset room
+unfolding plainRead readLength
+plain-length xs offset room = simp (length-take, length-drop) (omega arith)
+
+-- the units that a read of some bytes touches, checked, have its bytes
+pub check-part : (v : Volume) (object : ℕ) (xs : List ℕ) → FileIs v object xs → (offset n : ℕ) → (n ≡ 0 → ⊥) → offset + n ≤ length xs
+    → (found : List ℕ) × (checkUnits v object (length xs) (unitsOf offset (offset + n)) ≡ bytes found) × (part (offset % unitBytes) n found ≡ part offset n xs)
+unfolding unitsOf
+check-part v object xs h offset n z l =
+    let f : ℕ = offset / unitBytes in
+    let m : ℕ = begun (offset + n) unitBytes - f in
+    let a : f * unitBytes + offset % unitBytes ≡ offset = omega arith in (
+      part (f * unitBytes) (m * unitBytes) xs,
+      check-is v object xs h m f (λ u p q. omega arith),
+      part-part xs (f * unitBytes) (m * unitBytes) (offset % unitBytes) n (omega arith) ∙ ap (λ (k : ℕ). part k n xs) a,
+    )
+
+-- what a volume says of an object: its card's size is that of these bytes, and its units are they
+abbrev pub ObjectIs : Volume → ℕ → List ℕ → Type 0
+ObjectIs v object xs = (c : Card) → cardOf v object ≡ some c → (c .size ≡ length xs) × FileIs v (c .object) xs
+
+-- a read that gets some bytes lies in the file
+read-within : (size offset room : ℕ) → (readLength size offset room ≡ 0 → ⊥) → offset + readLength size offset room ≤ size
+unfolding readLength
+read-within size offset room z = omega arith
+
+module _ (s : Store) (object : ℕ) (xs : List ℕ) (known : ObjectIs (decode s) object xs) (offset : ℕ) (out : List ℕ) where
+  -- the units that a read touches, checked, have the plain array's bytes
+  read-units : (c : Card) → cardOf (decode s) object ≡ some c → (readLength (c .size) offset (length out) ≡ 0 → ⊥)
+      → (found : List ℕ)
+      × (checkUnits (decode s) (c .object) (c .size) (unitsOf offset (offset + readLength (c .size) offset (length out))) ≡ bytes found)
+      × (part (offset % unitBytes) (readLength (c .size) offset (length out)) found ≡ plainRead xs offset (length out))
+  read-units c q z =
+      let w : readLength (length xs) offset (length out) ≡ 0 → ⊥ = rw (known c q .0) at z in
+      rw (known c q .0, plain-part xs offset (length out))
+      (check-part (decode s) (c .object) xs (known c q .1) offset (readLength (length xs) offset (length out)) w (read-within (length xs) offset (length out) w))
+
+  -- an accepted read's count and buffer
+  read-bytes : (c : Card) (o : Outcome) → cardOf (decode s) object ≡ some c
+      → ((readLength (c .size) offset (length out) ≡ 0) × (o ≡ accept 0 s out)) ⊎ ReadBytes offset out s c o
+      → o ≡ accept (readLength (c .size) offset (length out)) s (plainRead xs offset (length out) ++ drop (readLength (c .size) offset (length out)) out)
+  unfolding checkedBytes
+  read-bytes c o q (inl e) =
+      let k : readLength (length xs) offset (length out) ≡ 0 = rw (known c q .0) at (e .0) in
+      rw (known c q .0, plain-part xs offset (length out), k, part-none xs offset) (e .1)
+  read-bytes c o q (inr d) =
+      let h = read-units c q (d .some) in
+      let f : d .found ≡ h .0 = ap checkedBytes (sym (d .checked) ∙ h .1) in
+      rw (f, h .2) at (d .done)
+
+  -- every accepted read gives the plain array's bytes
+  pub read-plain : (files : List File) → fileBytes files object ≡ some xs → call (read object offset out) s .number ≡ 0
+      → PlainAnswer files object offset out (call (read object offset out) s)
+  unfolding call lentOut result
+  read-plain files e a =
+      let r = read-accepted object offset out s a in
+      let k = read-bytes (r .card) (outcome (read object offset out) s) (r .known) (r .done) in
+      let n : readLength (r .card .size) offset (length out) ≡ length (plainRead xs offset (length out)) = rw (known (r .card) (r .known) .0) (sym (plain-length xs offset (length out))) in
+      rw k (record { bytes = xs; known = e; count = n; buffer = refl })
+
+  -- and no read is refused with "2, 9 to 12 and 14"
+  pub read-never : Passes s → member (call (read object offset out) s .number) neverNumbers ≡ false
+  read-never p =
+      never-read s p object offset out
+      (λ c q z r e. let h = read-units c q z in let m : _≡_ {A = ℕ} 0 1 = cc (e, h .1) in omega arith)

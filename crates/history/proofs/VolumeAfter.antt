@@ -1,0 +1,287 @@
+-- The volume that a change leaves is lawful and in range, and has room in the buffers: so the store that is left says it.
+-- Assumes nothing.
+use mathlib.Core.Path.{_≡_, refl, sym, ap, _∙_}
+use mathlib.Core.List.{List, [], _∷_, map, flatMap}
+use mathlib.Core.Bool.{true, _&&_}
+use mathlib.Core.Option.{Option, none, some}
+use Prim.Native.Nat.{ℕ, _+_, _-_, _*_, _/_, _%_, _^_, _≤_, _<_}
+use native.Mathlib.Nat.{pow-suc}
+use native.Mathlib.Decide.{decLt}
+use native.Mathlib.Omega.{arith}
+use lib.Dec.{eqb, leb}
+use lib.ListN.{length, getD, List·getD-eq-default}
+use borrow.Author.Tests.{eqb-true, leb-true, le-leb}
+use Rattle.rules.specs.Lists.{maybe, given, all, ascending, begun}
+use Rattle.rules.specs.Sizes.{blockBytes, unitBlocks, unitBytes, mostBlocks, mostSize}
+use Rattle.rules.specs.Bytes.{Bytes, part}
+use Rattle.rules.specs.Card.{Card, cardBefore}
+use Rattle.rules.specs.Extent.{Extent, extentBytes, extentBefore, extentEnd}
+use Rattle.rules.specs.Group.{groupBytes, groupBefore}
+use Rattle.rules.specs.Map.{mapBytes}
+use Rattle.rules.specs.Checksum.{unitChecksum}
+use Rattle.rules.specs.Crc32c.{fromBits, complement, message, dividend, divide, crc32c}
+use Rattle.rules.specs.Store.{Store, Volume, headOf, encodeInto, places, blockAt, cardOf}
+use Rattle.rules.specs.Integrity.{ordered, timesRight, noneEmpty, noOverlap, onDevice, inFile, inFiles}
+use Rattle.rules.specs.Units.{Change, validLength}
+use Rattle.rules.specs.Inspect.{Inspected, inspectUnit, validBytes, backedBytes, validMapping}
+use Rattle.rules.specs.Rewrite.{Progress, Rewritten}
+use Rattle.rules.specs.Finish.{finishedCards, finishedExtents, finishedGroups, finished}
+use Rattle.rules.proofs.ListLaws.{and-left, and-right, and-intro, all-weaken, any-index, find-given, find-passes, find-mem, Each, each-at, each-all, each-both, each-map, each-any, each-weaken}
+use Rattle.rules.proofs.ByteLaws.{bytes-nil, bytes-append, bytes-take, bytes-part, getD-part}
+use Rattle.rules.proofs.DivisionLaws.{crc-divides}
+use Rattle.rules.proofs.CardLaws.{CardFits}
+use Rattle.rules.proofs.ExtentLaws.{ExtentFits}
+use Rattle.rules.proofs.StoreLaws.{VolumeFits}
+use Rattle.rules.proofs.PassLaws.{each-passed, all-passed, Lawful, Room, buffers-sized, Says, says-encodeInto}
+use Rattle.rules.proofs.EnterLaws.{TimeRight}
+use Rattle.history.proofs.ReadLaws.{UnitIs, is-hole, is-checked, FileIs}
+use Rattle.rules.specs.Demand.{holders}
+use Rattle.history.proofs.ExtentsAfter.{device-after, files-after}
+use Rattle.history.proofs.RunLaws.{single}
+use Rattle.history.proofs.ImageAfter.{length-finishedImage, bytes-finishedImage}
+use Rattle.history.proofs.GroupsAfter.{ascending-finished, fits-finished}
+use Rattle.history.proofs.CardsAfter.{card-only, cardAfter, cards-are, card-mine, object-after, found-after, cards-order, cards-length, cards-times, cards-fit, file-stays}
+use Rattle.history.proofs.UnitLaws.{checked-means}
+use Rattle.history.proofs.ChangeLaws.{Becomes}
+use Rattle.history.proofs.PlanLaws.{Enough, unitPart}
+use Rattle.history.proofs.PlannedLaws.{Made, made-blocks, planned-hint, planned-enough}
+use Rattle.history.proofs.AfterUnits.{Carrying, made-all, laid-all, apart-old, apart-new}
+use Rattle.history.proofs.BlocksAfter.{each-newPlaces, new-sited, mapped-after-right, reserved-after, retired-after, used-past, retired-past}
+use Rattle.history.proofs.MoreLists.{any-each, each-mem, getD-same}
+
+-- ---- bytes
+
+-- the blocks of an image of bytes are bytes
+bytes-blocks : (image : List ℕ) → Bytes image → (os : List (Option ℕ)) → Bytes (flatMap (maybe [] (blockAt image)) os)
+unfolding flatMap maybe
+bytes-blocks image b [] = bytes-nil
+bytes-blocks image b (none ∷ os) = bytes-blocks image b os
+bytes-blocks image b (some p ∷ os) = bytes-append (blockAt image p) (flatMap (maybe [] (blockAt image)) os) (unfold blockAt in bytes-part image (p * blockBytes) blockBytes b) (bytes-blocks image b os)
+
+-- a plain array that a volume's file has is one of bytes
+pub bytes-file : (v : Volume) (object : ℕ) (xs : List ℕ) → FileIs v object xs → Bytes (v .image) → Bytes xs
+bytes-file v object xs f b i = go (decLt i (length xs))
+  where
+    u : ℕ
+    u = i / unitBytes
+
+    j : ℕ
+    j = i % unitBytes
+
+    here : getD xs i 0 ≡ getD (unitPart u xs) j 0
+    here = let e : u * unitBytes + j ≡ i = omega arith in
+        sym (getD-part xs (u * unitBytes) unitBytes j (omega arith) ∙ ap (λ (k : ℕ). getD xs k 0) e)
+
+    unit : {n : Inspected} → UnitIs (unitPart u xs) n → inspectUnit v object (length xs) u ≡ n → getD (unitPart u xs) j 0 < 256
+    unit (is-hole e) h = omega (arith, ap (λ (zs : List ℕ). getD zs j 0) e ∙ getD-same (length (unitPart u xs)) 0 j)
+    unit (is-checked {ys = zs} e) h =
+        let c = checked-means v object (length xs) u zs h in
+        let k : Bytes (validBytes v object (length xs) u) = unfold validBytes backedBytes in bytes-take (validLength (length xs) u) _ (bytes-blocks (v .image) b (validMapping v object (length xs) u)) in
+        omega (arith, ap (λ (ws : List ℕ). getD ws j 0) (e ∙ c .bytes), k j)
+
+    go : Dec (i < length xs) → getD xs i 0 < 256
+    go (yes l) = omega (arith, here, unit (f u (omega arith)) refl)
+    go (no l) = omega (arith, List·getD-eq-default xs 0 {n = i} (omega arith))
+
+-- what it becomes by a change of bytes is too
+pub bytes-becomes : (c : Change) (xs ys : List ℕ) → Becomes c xs ys → Bytes xs → Bytes (c .bytes) → Bytes ys
+bytes-becomes c xs ys h b w i = go (decLt i (c .offset)) (decLt i (c .offset + length (c .bytes)))
+  where
+    go : Dec (i < c .offset) → Dec (i < c .offset + length (c .bytes)) → getD ys i 0 < 256
+    go (yes l) m = omega (arith, h .before i l, b i)
+    go (no l) (yes m) =
+        let e : c .offset + (i - c .offset) ≡ i = omega arith in
+        omega (arith, sym (ap (λ (k : ℕ). getD ys k 0) e) ∙ h .written (i - c .offset) (omega arith), w (i - c .offset))
+    go (no l) (no m) = omega (arith, h .behind i (omega arith), b i)
+
+-- ---- checksums
+
+-- 32 coefficients are a number of 32 bits
+bits-below : (ps : List ℕ) → fromBits (map complement ps) < 2 ^ length ps
+unfolding fromBits complement
+bits-below [] = omega arith
+bits-below (p ∷ ps) = omega (arith, bits-below ps, pow-suc 2 (length ps))
+
+-- a checksum is a number of 32 bits
+checksum-below : (uuid : List ℕ) (object unit : ℕ) (bytes : List ℕ) → unitChecksum uuid object unit bytes < 2 ^ 32
+unfolding unitChecksum crc32c
+checksum-below uuid object unit bytes = go _
+  where
+    go : (m : List ℕ) → fromBits (map complement (divide (length (message m)) (dividend (message m)))) < 2 ^ 32
+    go m = rw (crc-divides m .short) at (bits-below (divide (length (message m)) (dividend (message m))))
+
+-- ---- the volume
+
+-- an extent that lies in a file with a card in range, and on a device of at most 65,536 blocks, is in range
+extent-fits : {cards : List Card} → Each CardFits cards → (n : ℕ) → n ≤ mostBlocks → (e : Extent) → inFile cards e ≡ true → e .physical + e .count ≤ n → ExtentFits e
+unfolding inFile extentEnd
+extent-fits {cards} f n m e t l =
+    let d : Card = record { object = 0; size = 0; allocated = 0; seconds = 0; nanoseconds = 0 } in
+    let i = any-index (λ c. eqb (c .object) (e .object) && leb (e .logical + e .count) (begun (c .size) blockBytes)) cards d t in
+    let c : Card = getD cards (i .0) d in
+    let k : CardFits c = each-at f (i .0) d (i .1) in
+    let q : c .object ≡ e .object = eqb-true (c .object) (e .object) (and-left (eqb (c .object) (e .object)) (leb (e .logical + e .count) (begun (c .size) blockBytes)) (i .2)) in
+    let b : e .logical + e .count ≤ begun (c .size) blockBytes = leb-true (e .logical + e .count) (begun (c .size) blockBytes) (and-right (eqb (c .object) (e .object)) (leb (e .logical + e .count) (begun (c .size) blockBytes)) (i .2)) in
+    record { object = omega (arith, k .object, q); logical = omega (arith, k .size, b); physical = omega (arith, l, m); count = omega (arith, l, m) }
+
+-- what is known of the call besides
+pub record CallRight (v : Volume) (c : Change) (us : List ℕ) (p : Progress) (seconds nanoseconds reserved : ℕ) : Type 0 where
+  pub card : Card
+  pub known : cardOf v (c .object) ≡ some card
+  pub size : card .size ≡ c .oldSize
+  pub fits : VolumeFits v
+  pub few : v .blocks ≤ mostBlocks
+  pub onePlace : (b : ℕ) → b < v .blocks → holders reserved v b ≡ 1
+  pub time : TimeRight seconds nanoseconds
+  pub end : c .newSize ≤ mostSize
+  pub enough : Enough v c us p
+  pub hint : p .hint < 4
+
+module _ {v : Volume} {c : Change} {xs ys : List ℕ} {us : List ℕ} {p : Progress} {rs : List Rewritten} {q : Progress} {seconds nanoseconds reserved : ℕ}
+    (d : Carrying v c xs ys us p rs q) (k : CallRight v c us p seconds nanoseconds reserved) where
+  -- the volume that is left
+  abbrev after-all : Volume
+  after-all = finished c seconds nanoseconds rs q v
+
+  -- the cards that are left
+  abbrev after-cards : List Card
+  after-cards = finishedCards c (q .allocated) seconds nanoseconds (v .books .cards)
+
+  -- a card after the change
+  abbrev moved : Card → Card
+  moved = cardAfter c (q .allocated) seconds nanoseconds
+
+  -- the extents that are left
+  abbrev after-extents : List Extent
+  after-extents = finishedExtents (c .object) rs (v .books .extents)
+
+  -- the books were in order
+  in-order-before : (ascending cardBefore (v .books .cards) ≡ true) × (ascending groupBefore (v .books .groups) ≡ true)
+  unfolding ordered
+  in-order-before =
+      let o = each-passed (ascending cardBefore (v .books .cards)) (ascending extentBefore (v .books .extents) ∷ ascending groupBefore (v .books .groups) ∷ []) (d .lawful .order) in
+      (o .0, o .1 .1 .0)
+
+  -- the file's card is its only one
+  pub only-card : Each (λ x. x .object ≡ c .object → x ≡ k .card) (v .books .cards)
+  only-card = card-only (c .object) (k .card) (v .books .cards) (in-order-before .0) (unfold cardOf in k .known)
+
+  -- no file gets shorter
+  longer : Each (λ x. x .object ≡ c .object → x .size ≤ c .newSize) (v .books .cards)
+  longer = each-weaken (λ x h e. let z : x .size ≡ k .card .size = ap (λ (y : Card). y .size) (h e) in omega (arith, z, k .size, d .becomes .old, d .becomes .new, d .becomes .more)) only-card
+
+  -- a new place lies in the file
+  place-in : (r : Rewritten) → Made v c ys r → (i : ℕ) → i < length (r .blocks)
+      → inFile after-cards (single (record { object = c .object; logical = r .unit * unitBlocks + i; block = getD (r .blocks) i 0 })) ≡ true
+  unfolding inFile extentEnd
+  place-in r m i l =
+      any-each (λ x. eqb (x .object) (c .object) && leb (r .unit * unitBlocks + i + 1) (begun (x .size) blockBytes)) (λ x. eqb (x .object) (c .object))
+      (rw (cards-are c (q .allocated) seconds nanoseconds (v .books .cards)) (each-map (moved) (each-any one (v .books .cards))))
+      (sym (find-given (λ x. eqb (x .object) (c .object)) after-cards)
+      ∙ (unfold given in ap given (found-after c (q .allocated) seconds nanoseconds (c .object) (v .books .cards) (k .card) (unfold cardOf in k .known))))
+    where
+      ends : r .unit * unitBlocks + i + 1 ≤ begun (c .newSize) blockBytes
+      ends = unfold validLength in omega (arith, l, made-blocks m)
+
+      one : (x : Card) → eqb (moved x .object) (c .object) ≡ true
+          → (eqb (moved x .object) (c .object) && leb (r .unit * unitBlocks + i + 1) (begun (moved x .size) blockBytes)) ≡ true
+      one x t =
+          let e : x .object ≡ c .object = sym (object-after c (q .allocated) seconds nanoseconds x) ∙ eqb-true (moved x .object) (c .object) t in
+          let z : moved x .size ≡ c .newSize = ap (λ (y : Card). y .size) (card-mine c (q .allocated) seconds nanoseconds x e) in
+          and-intro (eqb (moved x .object) (c .object)) (leb (r .unit * unitBlocks + i + 1) (begun (moved x .size) blockBytes)) t
+          (rw z (le-leb (r .unit * unitBlocks + i + 1) (begun (c .newSize) blockBytes) ends))
+
+  -- its extents lie in their files
+  files-in : all (inFile after-cards) after-extents ≡ true
+  files-in =
+      files-after after-cards (c .object) rs (v .books .extents) (apart-old d)
+      (all-weaken (inFile after-cards) (inFile (v .books .cards)) (v .books .extents) (file-stays c (q .allocated) seconds nanoseconds longer) (unfold inFiles in d .lawful .files))
+      (each-newPlaces (c .object) (each-weaken (λ r m i l. place-in r m i l) (made-all d)))
+
+  -- and on the device
+  device-in : all (λ e. leb (e .physical + e .count) (v .blocks)) after-extents ≡ true
+  device-in = device-after (v .blocks) (c .object) rs (v .books .extents) (apart-old d) (unfold onDevice in d .lawful .device) (each-weaken (λ x s. s .below) (new-sited d))
+
+  -- the volume that is left is lawful
+  lawful-after : Lawful after-all
+  unfolding finished ordered timesRight noneEmpty noOverlap onDevice inFiles
+  lawful-after = record {
+    order = all-passed (ascending cardBefore after-cards) (ascending extentBefore after-extents ∷ ascending groupBefore (finishedGroups (c .object) rs (v .books .groups)) ∷ [])
+        (cards-order c (q .allocated) seconds nanoseconds (v .books .cards) (in-order-before .0), (apart-new d .order, (ascending-finished (c .object) rs (v .books .groups) (in-order-before .1), tt)));
+    times = cards-times c (q .allocated) seconds nanoseconds (k .time .part) (v .books .cards) (d .lawful .times);
+    filled = apart-new d .filled;
+    apart = apart-new d .apart;
+    device = device-in;
+    files = files-in;
+    mapped = mapped-after-right d reserved (k .onePlace) seconds nanoseconds;
+    reserved = reserved-after d reserved (k .onePlace) seconds nanoseconds;
+    retired = retired-after d reserved (k .onePlace) seconds nanoseconds;
+    usedPast = used-past d reserved (k .onePlace) seconds nanoseconds;
+    retiredPast = retired-past d reserved (k .onePlace) seconds nanoseconds;
+  }
+
+  -- its cards are in range
+  cards-in : Each CardFits after-cards
+  cards-in =
+      cards-fit c (q .allocated) seconds nanoseconds (omega (arith, k .end)) (omega (arith, planned-enough (d .planned) (k .enough) .most)) (omega (arith, k .time .early)) (omega (arith, k .time .part))
+      (v .books .cards) (k .fits .cards)
+
+  -- the file's object is in range
+  object-in : c .object < 2 ^ 64
+  object-in =
+      let m = find-mem (λ x. eqb (x .object) (c .object)) (v .books .cards) (k .card) (unfold cardOf in k .known) in
+      let e = find-passes (λ x. eqb (x .object) (c .object)) (v .books .cards) (k .card) (unfold cardOf in k .known) in
+      omega (arith, each-mem (k .fits .cards) m .object, eqb-true (k .card .object) (c .object) e)
+
+  -- all is in range, where the books are short enough
+  fits-after : length after-extents < 2 ^ 20 → length (finishedGroups (c .object) rs (v .books .groups)) < 2 ^ 20 → VolumeFits after-all
+  unfolding finished headOf
+  fits-after le lg =
+      let h = k .fits .head in
+      record {
+        head = record {
+          uuidLength = h .uuidLength;
+          uuid = h .uuid;
+          blocks = h .blocks;
+          reserved = h .reserved;
+          hint = planned-hint (k .few) (d .planned) (k .hint);
+          cards = rw (cards-length c (q .allocated) seconds nanoseconds (v .books .cards)) (h .cards);
+          extents = le;
+          groups = lg;
+        };
+        cards = cards-in;
+        extents = each-both (λ e t l. extent-fits cards-in (v .blocks) (k .few) e t l) (each-all (inFile after-cards) (λ e t. t) after-extents files-in)
+            (each-all (λ e. leb (e .physical + e .count) (v .blocks)) (λ e t. leb-true (e .physical + e .count) (v .blocks) t) after-extents device-in);
+        groups = fits-finished (c .object) object-in (each-weaken unit-in (made-all d)) (v .books .groups) (k .fits .groups);
+        used = λ n l. used-past d reserved (k .onePlace) seconds nanoseconds n (unfold mapBytes in omega (arith, l));
+        retired = λ n l. retired-past d reserved (k .onePlace) seconds nanoseconds n (unfold mapBytes in omega (arith, l));
+      }
+    where
+      unit-in : (r : Rewritten) → Made v c ys r → (r .unit < 2 ^ 64) × (r .checksum < 2 ^ 32)
+      unit-in r m = (omega (arith, m .inside, k .end), rw (m .right .checksum) (checksum-below (v .uuid) (c .object) (r .unit) (unitPart (r .unit) ys)))
+
+  -- there is room for it
+  room-after : (s : Store) → Room s v → length after-extents ≤ places extentBytes (s .extents) → length (finishedGroups (c .object) rs (v .books .groups)) ≤ places groupBytes (s .groups) → Room s after-all
+  unfolding finished
+  room-after s r le lg = record {
+    buffers = r .buffers;
+    blocks = r .blocks;
+    image = length-finishedImage (v .blocks) (laid-all d) (v .image) (d .image) ∙ r .image;
+    reserved = r .reserved;
+    cards = rw (cards-length c (q .allocated) seconds nanoseconds (v .books .cards)) (r .cards);
+    extents = le;
+    groups = lg;
+  }
+
+  -- its image is of bytes
+  bytes-after : Bytes (v .image) → Bytes ys → Bytes (after-all .image)
+  unfolding finished
+  bytes-after b w =
+      bytes-finishedImage (v .blocks) (laid-all d) (each-weaken (λ r m. rw (m .right .bytes) (bytes-part ys (r .unit * unitBytes) unitBytes w)) (made-all d)) (v .image) b
+
+  -- so the store that is left says it
+  pub says-after : (s : Store) → Room s v → Bytes (v .image) → Bytes ys → length after-extents ≤ places extentBytes (s .extents)
+      → length (finishedGroups (c .object) rs (v .books .groups)) ≤ places groupBytes (s .groups) → Says (encodeInto s after-all) after-all
+  says-after s r b w le lg =
+      let z = buffers-sized s (r .buffers) in
+      says-encodeInto s after-all (room-after s r le lg) (fits-after (omega (arith, le, z .extents .most)) (omega (arith, lg, z .groups .most))) lawful-after (bytes-after b w)
