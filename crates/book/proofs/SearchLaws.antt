@@ -3,7 +3,7 @@
 use mathlib.Core.Path.{_≡_, refl, sym, ap, _∙_}
 use mathlib.Core.Bool.{Bool, true, false, not}
 use mathlib.Core.List.{List, [], _∷_, getLast?}
-use mathlib.Core.Option.{none, some}
+use mathlib.Core.Option.{Option, none, some}
 use Prim.Native.Nat.{ℕ, zero, suc, _+_, _-_, _*_, _≤_, _<_}
 use native.Mathlib.Decide.{ℕ-discrete}
 use native.Mathlib.Omega.{arith}
@@ -11,20 +11,21 @@ use borrow.Author.Count.{below-more}
 use borrow.Author.Tests.{eq-eqb, ne-eqb, not-true, not-false}
 use lib.Dec.{eqb, leb, ltb}
 use lib.ListN.{length, getD}
-use Rattle.rules.specs.Lists.{maybe, any, filter, pairBefore}
+use Rattle.rules.specs.Lists.{if_then_else_, maybe, any, filter, pairBefore}
 use Rattle.rules.specs.Bytes.{part}
 use Rattle.rules.specs.Card.{cardBytes, decodeCard}
-use Rattle.rules.specs.Extent.{Extent, extentBytes, decodeExtent}
+use Rattle.rules.specs.Extent.{extentBytes, decodeExtent, covers}
 use Rattle.rules.specs.Group.{groupBytes, decodeGroup}
 use Rattle.rules.specs.Book.{decodeBook}
 use Rattle.rules.specs.Inspect.{lastFrom}
-use Rattle.rules.proofs.ListLaws.{test-cases, clash, any-index, filter-yes, filter-no, filter-none, find-at, find-none}
+use Rattle.rules.proofs.ListLaws.{if-true, if-false, test-cases, clash, any-index, filter-yes, filter-no, filter-none, find-at, find-none}
 use Rattle.rules.proofs.BookLaws.{length-decodeBook, getD-decodeBook}
 use Rattle.format.specs.declared.card.Card.{Card}
 use Rattle.format.specs.declared.extent.Extent.{Extent as ExtentStruct}
 use Rattle.format.specs.Records.{cardOf, extentOf}
+use Rattle.book.specs.declared.Found.{Found}
 use Rattle.book.specs.declared.Found.the-variants.{At, Nothing}
-use Rattle.book.specs.Places.{recordAt, foundIn, placeOf, firstPlace, lastPlace, leading, FoundFirst, FoundLast, cardIs, cardUnder, extentUnder, extentUpTo, groupIs, groupUnder}
+use Rattle.book.specs.Places.{recordAt, foundIn, placeOf, firstPlace, lastPlace, leading, FoundFirst, LastExtent, cardIs, cardUnder, extentUnder, extentUpTo, groupIs, groupUnder}
 
 -- ---- lists
 
@@ -80,7 +81,32 @@ module _ {A : Type 0} (f : A → Bool) (d : A) where
   leading-is (x ∷ xs) zero l h g = rw (g (omega arith)) refl
   leading-is (x ∷ xs) (suc i) l h g = rw (h 0 (omega arith), leading-is xs i (omega arith) (λ j m. h (suc j) (omega arith)) (λ m. g (omega arith))) refl
 
+  -- what stands in front passes
+  pub leading-passes : (xs : List A) (j : ℕ) → j < leading f xs → f (getD xs j d) ≡ true
+  unfolding leading
+  leading-passes [] j l = absurd (omega arith)
+  leading-passes (x ∷ xs) zero l =
+      test-cases (f x ≡ true) (f x) (λ t. t) (λ t. absurd (omega (arith, rw (if-false (f x) (suc (leading f xs)) 0 t) at l)))
+  leading-passes (x ∷ xs) (suc j) l =
+      test-cases (f (getD xs j d) ≡ true) (f x) (λ t. leading-passes xs j (omega (arith, rw (if-true (f x) (suc (leading f xs)) 0 t) at l)))
+      (λ t. absurd (omega (arith, rw (if-false (f x) (suc (leading f xs)) 0 t) at l)))
+
+  -- and the next does not
+  pub leading-fails : (xs : List A) → leading f xs < length xs → f (getD xs (leading f xs) d) ≡ false
+  unfolding leading
+  leading-fails [] l = absurd (omega arith)
+  leading-fails (x ∷ xs) l =
+      test-cases (f (getD (x ∷ xs) (if f x then suc (leading f xs) else 0) d) ≡ false) (f x)
+      (λ t. rw (if-true (f x) (suc (leading f xs)) 0 t) (leading-fails xs (omega (arith, rw (if-true (f x) (suc (leading f xs)) 0 t) at l))))
+      (λ t. rw (if-false (f x) (suc (leading f xs)) 0 t) t)
+
 -- ---- books
+
+-- the last record that passes the test was found
+pub record FoundLast {A : Type 0} (f : A → Bool) (decode : List ℕ → A) (w n : ℕ) (s : List ℕ) (r : Found) : Type 0 where
+  pub place : placeOf r ≡ lastPlace f (decodeBook decode w n s)
+  pub found : foundIn decode w s r ≡ getLast? (filter f (decodeBook decode w n s))
+  pub within : (i : ℕ) → placeOf r ≡ some i → i < n
 
 -- the first i records fail the test
 abbrev pub Fails : {A : Type 0} → (A → Bool) → (List ℕ → A) → ℕ → List ℕ → ℕ → Type 0
@@ -93,6 +119,14 @@ FailBehind f decode w n s i = (j : ℕ) → i ≤ j → j < n → f (recordAt de
 -- the first i records pass it
 abbrev pub Passes : {A : Type 0} → (A → Bool) → (List ℕ → A) → ℕ → List ℕ → ℕ → Type 0
 Passes f decode w s i = (j : ℕ) → j < i → f (recordAt decode w s j) ≡ true
+
+-- a place that was found is the one that was answered
+same-place : (n i j : ℕ) → i < n → some i ≡ some j → j < n
+same-place n i j l e = let q : i ≡ j = cc in omega arith
+
+-- where none was found none was answered
+no-place : (n j : ℕ) → _≡_ {A = Option ℕ} none (some j) → j < n
+no-place n j e = let z : _≡_ {A = ℕ} 0 1 = cc in absurd (omega arith)
 
 module _ {A : Type 0} (decode : List ℕ → A) (w : ℕ) (s : List ℕ) where
   -- the record at a place of the book
@@ -109,9 +143,11 @@ module _ {A : Type 0} (decode : List ℕ → A) (w : ℕ) (s : List ℕ) where
     pub fails-none : Fails f decode w s 0
     fails-none j l = absurd (omega arith)
 
+    -- the same where records pass
     pub passes-none : Passes f decode w s 0
     passes-none j l = absurd (omega arith)
 
+    -- the same from the end
     pub behind-none : (n : ℕ) → FailBehind f decode w n s n
     behind-none n j l m = absurd (omega arith)
 
@@ -119,9 +155,11 @@ module _ {A : Type 0} (decode : List ℕ → A) (w : ℕ) (s : List ℕ) where
     pub fails-more : (i : ℕ) (m : Bool) → Fails f decode w s i → m ≡ f (recordAt decode w s i) → m ≡ false → Fails f decode w s (i + 1)
     fails-more i m h e t = below-more (λ j. f (recordAt decode w s j) ≡ false) i h (sym e ∙ t)
 
+    -- one more passes
     pub passes-more : (i : ℕ) (m : Bool) → Passes f decode w s i → m ≡ f (recordAt decode w s i) → not m ≡ false → Passes f decode w s (i + 1)
     passes-more i m h e t = below-more (λ j. f (recordAt decode w s j) ≡ true) i h (sym e ∙ not-false m t)
 
+    -- one more from the end
     pub behind-more : (n i : ℕ) (m : Bool) → FailBehind f decode w n s i → 0 < i → m ≡ f (recordAt decode w s (i - 1)) → m ≡ false → FailBehind f decode w n s (i - 1)
     behind-more n i m h z e t j l k = go (ℕ-discrete j (i - 1))
       where
@@ -141,6 +179,7 @@ module _ {A : Type 0} (decode : List ℕ → A) (w : ℕ) (s : List ℕ) where
           record {
             place = sym (first-at f (decode []) b i (omega arith) here front);
             found = sym (find-at f b i (decode []) (omega arith) here front ∙ ap some (record-at n i (decode []) l));
+            within = λ j q. same-place n i j l q;
           }
 
       -- none was
@@ -150,7 +189,7 @@ module _ {A : Type 0} (decode : List ℕ → A) (w : ℕ) (s : List ℕ) where
           let b : List A = decodeBook decode w n s in
           let len : length b ≡ n = length-decodeBook decode w n s in
           let all : (j : ℕ) → j < length b → f (getD b j (decode [])) ≡ false = λ j k. test-at n j false (omega arith) (h j (omega arith)) in
-          record { place = sym (first-none f (decode []) b all); found = sym (find-none f b (any-none f (decode []) b all)) }
+          record { place = sym (first-none f (decode []) b all); found = sym (find-none f b (any-none f (decode []) b all)); within = λ j q. no-place n j q }
 
       -- the last was found
       pub found-last : (i : ℕ) (m : Bool) → 0 < i → i ≤ n → FailBehind f decode w n s i → m ≡ f (recordAt decode w s (i - 1)) → m ≡ true → FoundLast f decode w n s (At (i - 1))
@@ -163,6 +202,7 @@ module _ {A : Type 0} (decode : List ℕ → A) (w : ℕ) (s : List ℕ) where
           record {
             place = sym (last-at f (decode []) b (i - 1) (omega arith) here rest);
             found = sym (filter-last f (decode []) b (i - 1) (omega arith) here rest ∙ ap some (record-at n (i - 1) (decode []) (omega arith)));
+            within = λ j q. same-place n (i - 1) j (omega arith) q;
           }
 
       -- none was
@@ -172,7 +212,7 @@ module _ {A : Type 0} (decode : List ℕ → A) (w : ℕ) (s : List ℕ) where
           let b : List A = decodeBook decode w n s in
           let len : length b ≡ n = length-decodeBook decode w n s in
           let all : (j : ℕ) → j < length b → f (getD b j (decode [])) ≡ false = λ j k. test-at n j false (omega arith) (h j (omega arith) (omega arith)) in
-          record { place = sym (last-none f (decode []) b all); found = rw (filter-none f b (any-none f (decode []) b all)) refl }
+          record { place = sym (last-none f (decode []) b all); found = rw (filter-none f b (any-none f (decode []) b all)) refl; within = λ j q. no-place n j q }
 
       -- so many stand in front of the first that fails
       pub leading-here : (i : ℕ) (m : Bool) → i < n → Passes f decode w s i → m ≡ f (recordAt decode w s i) → not m ≡ true → i ≡ leading f (decodeBook decode w n s)
@@ -188,10 +228,10 @@ module _ {A : Type 0} (decode : List ℕ → A) (w : ℕ) (s : List ℕ) where
           let len : length b ≡ n = length-decodeBook decode w n s in
           sym (leading-is f (decode []) b n (omega arith) (λ j k. test-at n j true k (h j (omega arith))) (λ k. absurd (omega arith)))
 
--- what `last_from` finds is what the rules call the last extent from a block
-pub last-extent : (es : List Extent) (object block : ℕ) → getLast? (filter (extentUpTo object block) es) ≡ lastFrom es object block
+-- of extents up to a block that is the last one from there
+pub last-extent : (object block n : ℕ) (s : List ℕ) (r : Found) → FoundLast (extentUpTo object block) decodeExtent extentBytes n s r → LastExtent object block n s r
 unfolding lastFrom
-last-extent es object block = refl
+last-extent object block n s r h = record { place = h .place; found = h .found; within = h .within }
 
 -- ---- the tests of one record
 
@@ -202,9 +242,11 @@ module _ (s : List ℕ) (i object : ℕ) where
     unfolding recordAt cardOf
     card-object = ap (λ r. r .object) e
 
+    -- so it is the one that is looked for if the record is
     pub card-is : eqb (c .object) object ≡ cardIs object (recordAt decodeCard cardBytes s i)
     card-is = ap (λ (a : ℕ). eqb a object) card-object
 
+    -- and stands before an object if the record does
     pub card-under : ltb (c .object) object ≡ cardUnder object (recordAt decodeCard cardBytes s i)
     card-under = ap (λ (a : ℕ). ltb a object) card-object
 
@@ -214,9 +256,15 @@ module _ (s : List ℕ) (i object : ℕ) where
     unfolding recordAt extentOf
     extent-object = ap (λ r. r .object) e
 
+    -- both numbers of it
     extent-logical : c .logical ≡ recordAt decodeExtent extentBytes s i .logical
     unfolding recordAt extentOf
     extent-logical = ap (λ r. r .logical) e
+
+    -- it maps the same block
+    pub extent-covers : (m : Bool) → m ≡ covers object x (extentOf c) → m ≡ covers object x (recordAt decodeExtent extentBytes s i)
+    unfolding recordAt
+    extent-covers m p = p ∙ ap (covers object x) e
 
     -- of another file
     pub extent-other : (c .object ≡ object → ⊥) → false ≡ extentUpTo object x (recordAt decodeExtent extentBytes s i)
@@ -226,6 +274,7 @@ module _ (s : List ℕ) (i object : ℕ) where
     pub extent-up-to : c .object ≡ object → leb (c .logical) x ≡ extentUpTo object x (recordAt decodeExtent extentBytes s i)
     extent-up-to o = rw (← extent-object, eq-eqb (c .object) object o, ← extent-logical) refl
 
+    -- it stands before a key if the record does
     pub extent-under : (m : Bool) → m ≡ pairBefore (c .object) (c .logical) object x → m ≡ extentUnder object x (recordAt decodeExtent extentBytes s i)
     extent-under m p = p ∙ rw (extent-object, extent-logical) refl
 
@@ -241,6 +290,7 @@ module _ (s : List ℕ) (i object : ℕ) where
       unfolding recordAt
       group-is o = rw (← e, eq-eqb a object o, ← f) refl
 
+      -- and before a key
       pub group-under : (m : Bool) → m ≡ pairBefore a b object x → m ≡ groupUnder object x (recordAt decodeGroup groupBytes s i)
       unfolding recordAt
       group-under m p = p ∙ rw (e, f) refl

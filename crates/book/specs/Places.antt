@@ -2,17 +2,18 @@
 -- Assumes nothing.
 use mathlib.Core.Path.{_≡_}
 use mathlib.Core.Bool.{Bool, true, _&&_}
-use mathlib.Core.List.{List, [], _∷_, _++_, getLast?}
+use mathlib.Core.List.{List, [], _∷_, _++_}
 use mathlib.Core.Option.{Option, none, some}
-use Prim.Native.Nat.{ℕ, suc, _+_, _-_, _*_}
+use Prim.Native.Nat.{ℕ, suc, _+_, _-_, _*_, _<_}
 use lib.Dec.{eqb, leb, ltb}
 use lib.ListN.{length, take, drop}
-use Rattle.rules.specs.Lists.{if_then_else_, maybe, filter, find, pairBefore}
+use Rattle.rules.specs.Lists.{if_then_else_, maybe, find, pairBefore}
 use Rattle.rules.specs.Bytes.{part}
 use Rattle.rules.specs.Card.{Card}
-use Rattle.rules.specs.Extent.{Extent, extentBefore}
+use Rattle.rules.specs.Extent.{Extent, extentBytes, decodeExtent, extentBefore}
 use Rattle.rules.specs.Group.{Group}
 use Rattle.rules.specs.Book.{decodeBook, zeroBehind}
+use Rattle.rules.specs.Inspect.{lastFrom}
 use Rattle.rules.specs.Integrity.{clear}
 use Rattle.book.specs.declared.Found.{Found}
 use Rattle.book.specs.declared.Found.the-variants.{At, Nothing}
@@ -52,11 +53,7 @@ leading f (x ∷ xs) = if f x then suc (leading f xs) else 0
 pub record FoundFirst {A : Type 0} (f : A → Bool) (decode : List ℕ → A) (w n : ℕ) (s : List ℕ) (r : Found) : Type 0 where
   pub place : placeOf r ≡ firstPlace f (decodeBook decode w n s)
   pub found : foundIn decode w s r ≡ find f (decodeBook decode w n s)
-
--- the last record that passes the test was found
-pub record FoundLast {A : Type 0} (f : A → Bool) (decode : List ℕ → A) (w n : ℕ) (s : List ℕ) (r : Found) : Type 0 where
-  pub place : placeOf r ≡ lastPlace f (decodeBook decode w n s)
-  pub found : foundIn decode w s r ≡ getLast? (filter f (decodeBook decode w n s))
+  pub within : (i : ℕ) → placeOf r ≡ some i → i < n
 
 -- ---- the tests that are searched by
 
@@ -75,6 +72,12 @@ extentUnder object logical e = pairBefore (e .object) (e .logical) object logica
 -- an extent of an object that starts at a block or before
 abbrev pub extentUpTo : ℕ → ℕ → Extent → Bool
 extentUpTo object block e = eqb (e .object) object && leb (e .logical) block
+
+-- the last extent of an object that starts at a block or before was found, as the rules have it, and at its place
+pub record LastExtent (object block n : ℕ) (s : List ℕ) (r : Found) : Type 0 where
+  pub place : placeOf r ≡ lastPlace (extentUpTo object block) (decodeBook decodeExtent extentBytes n s)
+  pub found : foundIn decodeExtent extentBytes s r ≡ lastFrom (decodeBook decodeExtent extentBytes n s) object block
+  pub within : (i : ℕ) → placeOf r ≡ some i → i < n
 
 -- the group with a key
 abbrev pub groupIs : ℕ → ℕ → Group → Bool

@@ -5,10 +5,10 @@ ghost use Prim.Native.Nat.{_+_, _*_, _≤_, _<_};
 ghost use lib.ListN.{length};
 ghost use Rattle.rules.specs.Lists.{ascending};
 ghost use Rattle.rules.specs.Card.{cardBytes, decodeCard, cardBefore};
-ghost use Rattle.rules.specs.Extent.{extentBytes, decodeExtent, extentBefore};
+ghost use Rattle.rules.specs.Extent.{extentBytes, decodeExtent, extentBefore, covers};
 ghost use Rattle.rules.specs.Group.{groupBytes, decodeGroup, groupBefore};
 ghost use Rattle.rules.specs.Book.{decodeBook};
-ghost use Rattle.book.specs.Places.{recordAt, FoundFirst, FoundLast, leading, cardIs, cardUnder, extentUnder, extentUpTo, groupIs, groupUnder};
+ghost use Rattle.book.specs.Places.{recordAt, FoundFirst, LastExtent, leading, cardIs, cardUnder, extentUnder, extentUpTo, groupIs, groupUnder};
 use super::Found;
 
 // Whether the card at place `i` is that of `object`.
@@ -78,7 +78,7 @@ fn extent_up_to(s: &[u8], i: usize, object: u64, block: u64) -> bool
 // it meets is the last.
 pub fn last_from(s: &[u8], n: usize, object: u64, block: u64) -> Found
     requires { ⌜ extentBytes * n ≤ length (now s) ⌝ }
-    ensures { λ r. ⌜ (ascending extentBefore (decodeBook decodeExtent extentBytes n (now (s .entry))) ≡ true → FoundLast (extentUpTo object block) decodeExtent extentBytes n (now (s .entry)) r) ⌝ }
+    ensures { λ r. ⌜ (ascending extentBefore (decodeBook decodeExtent extentBytes n (now (s .entry))) ≡ true → LastExtent object block n (now (s .entry)) r) ⌝ }
 {
     let mut i = n;
     while 0 < i {
@@ -86,6 +86,30 @@ pub fn last_from(s: &[u8], n: usize, object: u64, block: u64) -> Found
             return Found::At(i - 1);
         }
         i -= 1;
+    }
+    Found::Nothing
+}
+
+// Whether the extent at place `i` maps this block of the file of `object`.
+fn extent_covers(s: &[u8], i: usize, object: u64, block: u64) -> bool
+    requires { ⌜ extentBytes * i + extentBytes ≤ length (now s) ⌝ }
+    ensures { λ r. ⌜ r ≡ covers object block (recordAt decodeExtent extentBytes (now (s .entry)) i) ⌝ }
+{
+    let e = format::extent::decode_extent(s, 33 * i);
+    e.covers(object, block)
+}
+
+// The extent among the first `n` that maps this block of the file of `object`.
+pub fn covering(s: &[u8], n: usize, object: u64, block: u64) -> Found
+    requires { ⌜ extentBytes * n ≤ length (now s) ⌝ }
+    ensures { λ r. ⌜ FoundFirst (covers object block) decodeExtent extentBytes n (now (s .entry)) r ⌝ }
+{
+    let mut i: usize = 0;
+    while i < n {
+        if extent_covers(s, i, object, block) {
+            return Found::At(i);
+        }
+        i += 1;
     }
     Found::Nothing
 }

@@ -9,7 +9,7 @@ use lib.ListN.{length}
 use Rattle.rules.specs.Bytes.{Bytes, part, patch}
 use Rattle.rules.specs.Card.{cardBytes, decodeCard, encodeCard, cardSpareZero}
 use Rattle.rules.specs.Extent.{extentBytes, decodeExtent, encodeExtent, extentFixed}
-use Rattle.rules.specs.Group.{groupBytes, decodeGroup, encodeGroup, groupFixed, absentZero}
+use Rattle.rules.specs.Group.{Group, groupBytes, decodeGroup, encodeGroup, groupFixed, absentZero}
 use Rattle.rules.proofs.ByteLaws.{bytes-part, length-part, part-patch, patch-part}
 use Rattle.rules.proofs.CardLaws.{decode-encodeCard, encode-decodeCard, length-encodeCard}
 use Rattle.rules.proofs.ExtentLaws.{decode-encodeExtent, encode-decodeExtent, length-encodeExtent}

@@ -20,12 +20,13 @@ use lib.Seq.{ext-getD, getD-set-same, getD-set-other, take-suc, take-all, take-t
 use Rattle.rules.specs.Lists.{if_then_else_, maybe, given, range, all}
 use Rattle.rules.specs.Bytes.{Bytes, be, le, leDigits, part, patch, pieces, bitSet}
 use Rattle.rules.specs.Group.{Group, groupBytes, groupKey, presence, slotBytes, slotValues, presenceBits, decodeGroup, encodeGroup, absentZero, groupFixed, upToPresent, compactGroup}
-use Rattle.rules.proofs.ListLaws.{Each, each-any, if-true, if-false, test-cases, clash, all-at, all-of, all-range-at, length-range, length-zipWith, getD-map, getD-map-range, getD-zipWith}
+use Rattle.rules.proofs.ListLaws.{Each, each-any, if-cases, if-true, if-false, test-cases, clash, all-at, all-of, all-range-at, length-range, length-zipWith, getD-map, getD-map-range, getD-zipWith}
 use Rattle.rules.proofs.ByteLaws.{length-beDigits, drop-take, getD-part, length-leDigits, length-part, part-drop, part-part, patch-none, patch-patch}
 use Rattle.rules.proofs.BitLaws.{length-bitBytes, bitBytes-same, bitBytes-bitSet}
 use Rattle.rules.proofs.BookLaws.{getD-pieces, length-flatMap, length-pieces, pieces-same}
 use Rattle.words.proofs.NumberLaws.{patch-whole}
 use Rattle.format.specs.Records.{slotsFrom, valueOf, valuesAt, slotRight, UpTo}
+use Rattle.rules.proofs.CountLaws.{flatMap-append}
 
 -- the slot of a presence bit and a value
 abbrev slotIf : Bool → ℕ → Option ℕ
@@ -125,17 +126,20 @@ bit-and a b j = rw (and-shr a b j) (low (a / 2 ^ j) (b / 2 ^ j))
     low : (x y : ℕ) → bitAnd x y % 2 ≡ min (x % 2) (y % 2)
     low x y = rw (and-step x y) (omega arith)
 
--- bit j of the byte that has bit k alone, and of the byte that has all others, as a table
+-- bit j of the byte that has bit k alone
 oneRight : ℕ → ℕ → Bool
 oneRight k j = eqb (2 ^ k / 2 ^ j % 2) (if eqb j k then 1 else 0)
 
+-- the same of the byte that has all bits but k
 restRight : ℕ → ℕ → Bool
 restRight k j = eqb ((2 ^ 8 - 1 - 2 ^ k) / 2 ^ j % 2) (if eqb j k then 0 else 1)
 
+-- the 64 cases of the one
 one-table : all (λ k. all (oneRight k) (range 0 8)) (range 0 8) ≡ true
 unfolding all range oneRight if_then_else_
 one-table = refl
 
+-- and of the other
 rest-table : all (λ k. all (restRight k) (range 0 8)) (range 0 8) ≡ true
 unfolding all range restRight if_then_else_
 rest-table = refl
@@ -145,20 +149,24 @@ at-table : (f : ℕ → ℕ → Bool) → all (λ k. all (f k) (range 0 8)) (ran
 at-table f t k j l m =
     ap (f k) (sym (zero-add j)) ∙ all-range-at (f k) 0 8 (rw (zero-add k) at (all-range-at (λ x. all (f x) (range 0 8)) 0 8 t k l)) j m
 
+-- so only bit k of it is set
 one-bit : (k j : ℕ) → k < 8 → j < 8 → 2 ^ k / 2 ^ j % 2 ≡ (if eqb j k then 1 else 0)
 unfolding oneRight
 one-bit k j l m = eqb-true (2 ^ k / 2 ^ j % 2) (if eqb j k then 1 else 0) (at-table oneRight one-table k j l m)
 
+-- and here only bit k is not
 rest-bit : (k j : ℕ) → k < 8 → j < 8 → (2 ^ 8 - 1 - 2 ^ k) / 2 ^ j % 2 ≡ (if eqb j k then 0 else 1)
 unfolding restRight
 rest-bit k j l m = eqb-true ((2 ^ 8 - 1 - 2 ^ k) / 2 ^ j % 2) (if eqb j k then 0 else 1) (at-table restRight rest-table k j l m)
 
 -- a byte stored in a map leaves the bits alone that it does not change
 module _ (m : List ℕ) (n v : ℕ) (h : n < 8 * length m) where
+  -- the bit is as the new byte has it
   bit-here : (b : Bool) → eqb (v / 2 ^ (n % 8) % 2) 1 ≡ b → bitSet (set m (n / 8) v) n ≡ b
   unfolding bitSet
   bit-here b e = rw (getD-set-same m (n / 8) v 0 (omega arith)) e
 
+  -- any other bit is as it was
   bit-there : ((j : ℕ) → j < 8 → (j ≡ n % 8 → ⊥) → v / 2 ^ j % 2 ≡ getD m (n / 8) 0 / 2 ^ j % 2) → (i : ℕ) → (i ≡ n → ⊥) → bitSet (set m (n / 8) v) i ≡ bitSet m i
   unfolding bitSet
   bit-there f i d = go (ℕ-discrete (i / 8) (n / 8))
@@ -178,6 +186,7 @@ set-here m n h =
     (rw (shifted n, bit-or (getD m (n / 8) 0) (2 ^ (n % 8)) (n % 8), one-bit (n % 8) (n % 8) (omega arith) (omega arith), eq-eqb (n % 8) (n % 8) refl)
     (unfold if_then_else_ in eq-eqb (max (getD m (n / 8) 0 / 2 ^ (n % 8) % 2) 1) 1 (omega (arith, mod-lt (getD m (n / 8) 0 / 2 ^ (n % 8)) {m = 2} (omega arith)))))
 
+-- any other bit is as it was
 pub set-there : (m : List ℕ) (n : ℕ) → n < 8 * length m → (i : ℕ) → (i ≡ n → ⊥) → bitSet (set m (n / 8) (bitOr (getD m (n / 8) 0) (1 * 2 ^ (n % 8) % 2 ^ 8))) i ≡ bitSet m i
 set-there m n h =
     bit-there m n (bitOr (getD m (n / 8) 0) (1 * 2 ^ (n % 8) % 2 ^ 8)) h
@@ -190,6 +199,7 @@ clear-here m n h =
     (rw (shifted n, bit-and (getD m (n / 8) 0) (2 ^ 8 - 1 - 2 ^ (n % 8)) (n % 8), rest-bit (n % 8) (n % 8) (omega arith) (omega arith), eq-eqb (n % 8) (n % 8) refl)
     (unfold if_then_else_ in ne-eqb (min (getD m (n / 8) 0 / 2 ^ (n % 8) % 2) 0) 1 (λ e. omega arith)))
 
+-- any other bit is as it was
 pub clear-there : (m : List ℕ) (n : ℕ) → n < 8 * length m → (i : ℕ) → (i ≡ n → ⊥) → bitSet (set m (n / 8) (bitAnd (getD m (n / 8) 0) (2 ^ 8 - 1 - 1 * 2 ^ (n % 8) % 2 ^ 8))) i ≡ bitSet m i
 clear-there m n h =
     bit-there m n (bitAnd (getD m (n / 8) 0) (2 ^ 8 - 1 - 1 * 2 ^ (n % 8) % 2 ^ 8)) h
@@ -218,6 +228,7 @@ with-slot p v n x m e l =
     slots-set p (set p (n / 8) (bitOr (getD p (n / 8) 0) (1 * 2 ^ (n % 8) % 2 ^ 8))) v n x true e l (set-here p n (omega arith)) (set-there p n (omega arith))
     ∙ (unfold if_then_else_ in refl)
 
+-- and where it clears a slot
 pub without-slot : (p v : List ℕ) (n x : ℕ) → length p ≡ 32 → length v ≡ 256 → n < 256
     → slotsFrom (set p (n / 8) (bitAnd (getD p (n / 8) 0) (2 ^ 8 - 1 - 1 * 2 ^ (n % 8) % 2 ^ 8))) (set v n x) ≡ set (slotsFrom p v) n none
 without-slot p v n x m e l =
@@ -321,11 +332,21 @@ compact-some p v used top e u z o b =
     positive : (a : ℕ) → (a ≡ 0 → ⊥) → 0 < a
     positive a f = omega arith
 
--- the length of a group's value as it is kept
-pub length-compact : (g : Group) → upToPresent (g .slots) ≤ length (g .slots) → length (compactGroup g) ≡ 32 + 4 * upToPresent (g .slots)
+-- the last present slot is one of them
+upTo-le : (ss : List (Option ℕ)) → upToPresent ss ≤ length ss
+unfolding upToPresent
+upTo-le [] = omega arith
+upTo-le (s ∷ ss) =
+    let r : upToPresent ss ≤ length ss = upTo-le ss in
+    if-cases (λ n. n ≤ length (s ∷ ss)) (eqb (upToPresent ss) 0) (if given s then 1 else 0) (suc (upToPresent ss))
+    (λ e. if-cases (λ n. n ≤ length (s ∷ ss)) (given s) 1 0 (λ d. omega arith) (λ d. omega arith))
+    (λ e. omega arith)
+
+-- the length of a group's value as it is kept: what `compact_group` answers
+pub length-compact : (g : Group) → length (compactGroup g) ≡ 32 + 4 * upToPresent (g .slots)
 unfolding compactGroup presence
-length-compact g l =
-    rw (length-append, length-bitBytes 32 (λ n. given (getD (g .slots) n none)) 0, length-flatMap slotBytes 4 (wide (take (upToPresent (g .slots)) (g .slots))), length-take-le (upToPresent (g .slots)) (g .slots) l) refl
+length-compact g =
+    rw (length-append, length-bitBytes 32 (λ n. given (getD (g .slots) n none)) 0, length-flatMap slotBytes 4 (wide (take (upToPresent (g .slots)) (g .slots))), length-take-le (upToPresent (g .slots)) (g .slots) (upTo-le (g .slots))) refl
 
 -- ---- a group's bytes at their place
 
@@ -449,12 +470,6 @@ absent-not b n m l q u =
 
 -- ---- slots written
 
--- two runs of records, written one behind the other
-pub flatMap-append : {A : Type 0} (f : A → List ℕ) (xs ys : List A) → flatMap f (xs ++ ys) ≡ flatMap f xs ++ flatMap f ys
-unfolding flatMap
-flatMap-append f [] ys = refl
-flatMap-append f (x ∷ xs) ys = rw (flatMap-append f xs ys) (sym (append-assoc (f x) (flatMap f xs) (flatMap f ys)))
-
 -- none yet
 pub slots-none : (s p v : List ℕ) (at : ℕ) → s ≡ patch s at (flatMap slotBytes (take 0 (slotsFrom p v)))
 unfolding flatMap
@@ -492,11 +507,12 @@ copied-whole n at s x l e = e ∙ patch-whole (replicate n 0) (part at n s) (len
 pub group-same : (object number : ℕ) (a b : List (Option ℕ)) → a ≡ b → _≡_ {A = Group} (record { object = object; number = number; slots = a }) (record { object = object; number = number; slots = b })
 group-same object number a b e = λ i. record { object = object; number = number; slots = e i }
 
--- the numbers of a record's key
+-- the first number of a record's key
 pub group-object : (s : List ℕ) (at x : ℕ) → x ≡ be (part at 8 s) → x ≡ decodeGroup (part at groupBytes s) .object
 unfolding decodeGroup
 group-object s at x e = e ∙ ap be (ap (λ (k : ℕ). part k 8 s) (sym (add-zero at)) ∙ sym (part-part s at 1073 0 8 (omega arith)))
 
+-- and the second
 pub group-number : (s : List ℕ) (at x : ℕ) → x ≡ be (part (at + 9) 8 s) → x ≡ decodeGroup (part at groupBytes s) .number
 unfolding decodeGroup
 group-number s at x e = e ∙ ap be (sym (part-part s at 1073 9 8 (omega arith)))

@@ -12,14 +12,9 @@ use Rattle.rules.specs.Integrity.{clear}
 use Rattle.rules.proofs.ListLaws.{and-right}
 use Rattle.format.specs.declared.extent.Extent.{Extent}
 use Rattle.format.specs.Records.{extentOf}
+use Rattle.rules.proofs.CountLaws.{same-test}
 
 -- ---- numbers
-
--- two tests that stand for the same agree
-same-test : (a b : Bool) → (a ≡ true → b ≡ true) → (b ≡ true → a ≡ true) → a ≡ b
-same-test true b f g = sym (f refl)
-same-test false true f g = g refl
-same-test false false f g = refl
 
 -- keys with the same first number
 pub before-equal : (a b c d : ℕ) → a ≡ c → ltb b d ≡ pairBefore a b c d
