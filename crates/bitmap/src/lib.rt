@@ -1,9 +1,10 @@
 // A map of bits: bit n is bit n mod 8 of byte n div 8, counted from the low bit.
 //
-// A long range is taken in words of 64 bits, from a byte's edge on; what is left at either end is taken bit by bit.
+// A range of 64 bits or more is taken in three parts: bit by bit to a byte's edge, then in words of 64 bits, then what is left bit by bit. The words
+// have loops of their own, with no test in them but the one that is asked for, so that they run at the speed of memory.
 ghost use mathlib.Core.Path.{_≡_};
 ghost use mathlib.Core.Bool.{Bool, true, false, not};
-ghost use Prim.Native.Nat.{ℕ, _+_, _-_, _*_, _^_, _≤_, _<_};
+ghost use Prim.Native.Nat.{ℕ, _+_, _-_, _*_, _%_, _^_, _≤_, _<_};
 ghost use lib.ListN.{length};
 ghost use Rattle.rules.specs.Lists.{if_then_else_, all, count, range};
 ghost use Rattle.rules.specs.Bytes.{bitSet};
@@ -62,24 +63,54 @@ fn word_of(value: bool) -> u64
     0
 }
 
+// The first byte's edge at or after bit `a`: at most seven bits on, and so before `e`.
+fn edge(a: usize, e: usize) -> usize
+    requires { ⌜ a + 64 ≤ e ⌝ }
+    ensures { λ r. ⌜ (a ≤ r) × (r ≤ a + 7) × (r % 8 ≡ 0) ⌝ }
+{
+    a + (8 - a % 8) % 8
+}
+
+// The bits from `a` to `e` as asked, bit by bit.
+fn fill_bits(m: &mut [u8], a: usize, e: usize, value: bool)
+    requires { ⌜ (a ≤ e) × (e ≤ 8 * length (now m)) ⌝ }
+    ensures { λ _. ⌜ now (m .exit) ≡ withBits value (now (m .entry)) a e ⌝ }
+{
+    let mut n = a;
+    while n < e {
+        put(m, n, value);
+        n += 1;
+    }
+}
+
+// The bits from `a`, a byte's edge, to `e` as asked, whole words.
+fn fill_words(m: &mut [u8], a: usize, e: usize, value: bool)
+    requires { ⌜ (a ≤ e) × (e ≤ 8 * length (now m)) × (a % 8 ≡ 0) × ((e - a) % 64 ≡ 0) ⌝ }
+    ensures { λ _. ⌜ now (m .exit) ≡ withBits value (now (m .entry)) a e ⌝ }
+{
+    let w = word_of(value);
+    let end = e / 8;
+    let mut i = a / 8;
+    while i < end {
+        words::put_le64(m, i, w);
+        i += 8;
+    }
+}
+
 // The bits from `a` to `e` as asked.
 fn fill(m: &mut [u8], a: usize, e: usize, value: bool)
     requires { ⌜ (a ≤ e) × (e ≤ 8 * length (now m)) ⌝ }
     ensures { λ _. ⌜ now (m .exit) ≡ withBits value (now (m .entry)) a e ⌝ }
 {
-    let w = word_of(value);
-    let mut n = a;
-    while n < e {
-        if n % 8 == 0 {
-            if 64 <= e - n {
-                words::put_le64(m, n / 8, w);
-                n += 64;
-                continue;
-            }
-        }
-        put(m, n, value);
-        n += 1;
+    if e - a < 64 {
+        fill_bits(m, a, e, value);
+        return;
     }
+    let s = edge(a, e);
+    let t = e - (e - s) % 64;
+    fill_bits(m, a, s, value);
+    fill_words(m, s, t, value);
+    fill_bits(m, t, e, value);
 }
 
 // The bits from `a` to `e` set.
@@ -108,29 +139,87 @@ fn first(w: u64, value: bool) -> u32
     u64::trailing_zeros(!w)
 }
 
-// The first bit at or after `a` that is as asked, or `e` if none before it is.
-fn next(m: &[u8], a: usize, e: usize, value: bool) -> usize
+// The first bit at or after `a` that is as asked, or `e` if none before it is, bit by bit.
+fn next_bits(m: &[u8], a: usize, e: usize, value: bool) -> usize
     requires { ⌜ (a ≤ e) × (e ≤ 8 * length (now m)) ⌝ }
     ensures { λ r. ⌜ Next (now (m .entry)) value a e r ⌝ }
 {
     let mut n = a;
     while n < e {
-        if n % 8 == 0 {
-            if 64 <= e - n {
-                let t = first(words::le64(m, n / 8), value) as usize;
-                if t < 64 {
-                    return n + t;
-                }
-                n += 64;
-                continue;
-            }
-        }
         if get(m, n) == value {
             return n;
         }
         n += 1;
     }
     e
+}
+
+// The same in the word that begins at bit `a`, a byte's edge.
+fn next_word(m: &[u8], a: usize, value: bool) -> usize
+    requires { ⌜ (a + 64 ≤ 8 * length (now m)) × (a + 64 < 2 ^ 64) × (a % 8 ≡ 0) ⌝ }
+    ensures { λ r. ⌜ Next (now (m .entry)) value a (a + 64) r ⌝ }
+{
+    a + first(words::le64(m, a / 8), value) as usize
+}
+
+// The same from a byte's edge on, whole pairs of words: one compare for each word that has no bit as asked. Two words a turn, as a turn has its own cost;
+// and a word is looked into where it is found, as one that is only compared with zero is read byte by byte.
+fn next_pairs(m: &[u8], a: usize, e: usize, value: bool) -> usize
+    requires { ⌜ (a ≤ e) × (e ≤ 8 * length (now m)) × (a % 8 ≡ 0) × ((e - a) % 128 ≡ 0) ⌝ }
+    ensures { λ r. ⌜ Next (now (m .entry)) value a e r ⌝ }
+{
+    let none = word_of(!value);
+    let end = e / 8;
+    let mut i = a / 8;
+    while i < end {
+        let w = words::le64(m, i);
+        if w != none {
+            return 8 * i + first(w, value) as usize;
+        }
+        i += 8;
+        let x = words::le64(m, i);
+        if x != none {
+            return 8 * i + first(x, value) as usize;
+        }
+        i += 8;
+    }
+    e
+}
+
+// The same from a byte's edge on, whole words: an odd one first, then pairs.
+fn next_words(m: &[u8], a: usize, e: usize, value: bool) -> usize
+    requires { ⌜ (a ≤ e) × (e ≤ 8 * length (now m)) × (a % 8 ≡ 0) × ((e - a) % 64 ≡ 0) ⌝ }
+    ensures { λ r. ⌜ Next (now (m .entry)) value a e r ⌝ }
+{
+    if (e - a) % 128 == 0 {
+        return next_pairs(m, a, e, value);
+    }
+    let r = next_word(m, a, value);
+    if r < a + 64 {
+        return r;
+    }
+    next_pairs(m, a + 64, e, value)
+}
+
+// The first bit at or after `a` that is as asked, or `e` if none before it is.
+fn next(m: &[u8], a: usize, e: usize, value: bool) -> usize
+    requires { ⌜ (a ≤ e) × (e ≤ 8 * length (now m)) ⌝ }
+    ensures { λ r. ⌜ Next (now (m .entry)) value a e r ⌝ }
+{
+    if e - a < 64 {
+        return next_bits(m, a, e, value);
+    }
+    let s = edge(a, e);
+    let x = next_bits(m, a, s, value);
+    if x < s {
+        return x;
+    }
+    let t = e - (e - s) % 64;
+    let y = next_words(m, s, t, value);
+    if y < t {
+        return y;
+    }
+    next_bits(m, t, e, value)
 }
 
 // The first set bit at or after `a`, or `e` if none before it is.
@@ -165,6 +254,7 @@ pub fn all_clear(m: &[u8], a: usize, e: usize) -> bool
     next_set(m, a, e) == e
 }
 
+// A bit as a number.
 fn one_if(bit: bool) -> usize
     ensures { λ r. ⌜ r ≡ (if bit then 1 else 0) ⌝ }
 {
@@ -174,23 +264,44 @@ fn one_if(bit: bool) -> usize
     0
 }
 
-// How many bits from `a` to `e` are set.
-pub fn count_set(m: &[u8], a: usize, e: usize) -> usize
+// How many bits from `a` to `e` are set, bit by bit.
+fn count_bits(m: &[u8], a: usize, e: usize) -> usize
     requires { ⌜ (a ≤ e) × (e ≤ 8 * length (now m)) ⌝ }
     ensures { λ r. ⌜ r ≡ count (bitSet (now (m .entry))) (range a (e - a)) ⌝ }
 {
     let mut total: usize = 0;
     let mut n = a;
     while n < e {
-        if n % 8 == 0 {
-            if 64 <= e - n {
-                total += u64::count_ones(words::le64(m, n / 8)) as usize;
-                n += 64;
-                continue;
-            }
-        }
         total += one_if(get(m, n));
         n += 1;
     }
     total
+}
+
+// The same from a byte's edge on, whole words. The loop has no exit, so that the compiler can count several words at once.
+fn count_words(m: &[u8], a: usize, e: usize) -> usize
+    requires { ⌜ (a ≤ e) × (e ≤ 8 * length (now m)) × (a % 8 ≡ 0) × ((e - a) % 64 ≡ 0) ⌝ }
+    ensures { λ r. ⌜ r ≡ count (bitSet (now (m .entry))) (range a (e - a)) ⌝ }
+{
+    let end = e / 8;
+    let mut total: usize = 0;
+    let mut i = a / 8;
+    while i < end {
+        total += u64::count_ones(words::le64(m, i)) as usize;
+        i += 8;
+    }
+    total
+}
+
+// How many bits from `a` to `e` are set.
+pub fn count_set(m: &[u8], a: usize, e: usize) -> usize
+    requires { ⌜ (a ≤ e) × (e ≤ 8 * length (now m)) ⌝ }
+    ensures { λ r. ⌜ r ≡ count (bitSet (now (m .entry))) (range a (e - a)) ⌝ }
+{
+    if e - a < 64 {
+        return count_bits(m, a, e);
+    }
+    let s = edge(a, e);
+    let t = e - (e - s) % 64;
+    count_bits(m, a, s) + count_words(m, s, t) + count_bits(m, t, e)
 }
