@@ -53,7 +53,7 @@ layOut v c unit bytes kept new = record {
   superseded = superseded (unitMapping v (c .object) unit unitBlocks) kept;
 }
 
--- "the card's count loses superseded blocks and gains new ones"; each place is counted
+-- "the card's count loses superseded blocks and gains new ones"; each place is counted. Where the difference would be cut off, 14 refuses
 unfoldable pub allocatedAfter : ℕ → Rewritten → ℕ
 allocatedAfter n r = n - length (r .superseded) + length (r .new)
 
