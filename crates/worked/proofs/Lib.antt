@@ -2,3 +2,4 @@ pub mod Stores
 pub mod Run
 pub mod Refused
 pub mod KeptBlocks
+pub mod Recorded
