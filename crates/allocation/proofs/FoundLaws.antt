@@ -10,7 +10,7 @@ use native.Mathlib.Omega.{arith}
 use lib.Dec.{eqb, ltb}
 use lib.ListN.{take, getD}
 use borrow.Author.Tests.{eqb-true, eqb-false, lt-ltb}
-use Rattle.rules.specs.Lists.{if_then_else_, maybe, range, all, filter, member, ascending, insert}
+use Rattle.rules.specs.Lists.{if_then_else_, maybe, range, all, filter, member, ascending, insert, neighbours}
 use Rattle.rules.specs.Bytes.{bitSet}
 use Rattle.rules.specs.Allocation.{allocationGroups, groupOrder, groupStart, groupEnd, highest, cursor, found, sorted, allocateData}
 use Rattle.rules.proofs.ListLaws.{test-cases, clash, order-cases, if-true, if-false, and-left, and-intro, or-cases, or-left, or-right, or-none-left, or-none-right, filter-append, ascending-insert, each-any, Each}
@@ -124,7 +124,7 @@ inserts-ascending ys (z ∷ zs) h d o =
 pub inserts-sorted : (blocks : ℕ) (zs : List ℕ) → Once zs → Each (λ b. b < blocks) zs → inserts [] zs ≡ sorted blocks zs
 inserts-sorted blocks zs o l =
     ascending-same (inserts [] zs) (sorted blocks zs)
-    (inserts-ascending [] zs (unfold ascending in refl) (λ b m. absurd (clash (member-nil b) m)) o)
+    (inserts-ascending [] zs (unfold neighbours in refl) (λ b m. absurd (clash (member-nil b) m)) o)
     (ascending-sorted blocks zs)
     (λ b. members b)
   where

@@ -9,12 +9,12 @@ use native.Mathlib.Omega.{arith}
 use borrow.Author.Tests.{not-true, not-false}
 use lib.ListN.{length, drop, getD, length-drop}
 use lib.Seq.{take-all}
-use Rattle.rules.specs.Lists.{ascending, pairBefore}
+use Rattle.rules.specs.Lists.{ascending, pairBefore, neighbours}
 use Rattle.rules.specs.Bytes.{part, allZero}
 use Rattle.rules.specs.Extent.{Extent, extentBytes, decodeExtent, extentBefore}
 use Rattle.rules.specs.Group.{groupBytes, decodeGroup, groupBefore}
 use Rattle.rules.specs.Book.{decodeBook}
-use Rattle.rules.specs.Integrity.{clear}
+use Rattle.rules.specs.Integrity.{apart}
 use Rattle.rules.proofs.ListLaws.{test-cases, clash, ascending-at, ascending-of}
 use Rattle.rules.proofs.BookLaws.{length-decodeBook, decodeBook-none}
 use Rattle.book.specs.Places.{recordAt, follows}
@@ -63,7 +63,7 @@ module _ {A : Type 0} (before : A → A → Bool) (decode : List ℕ → A) (w :
 
 -- two orders at once are both
 pub ascending-both : {A : Type 0} (f g : A → A → Bool) (xs : List A) → ascending (λ x y. f x y && g x y) xs ≡ (ascending f xs && ascending g xs)
-unfolding ascending
+unfolding neighbours
 ascending-both f g [] = refl
 ascending-both f g (x ∷ []) = refl
 ascending-both f g (x ∷ y ∷ ys) = rw (ascending-both f g (y ∷ ys)) (swap (f x y) (g x y) (ascending f (y ∷ ys)) (ascending g (y ∷ ys)))
@@ -75,13 +75,13 @@ ascending-both f g (x ∷ y ∷ ys) = rw (ascending-both f g (y ∷ ys)) (swap (
     swap true false false d = refl
 
 -- order and overlap are what one scan tests
-pub follows-both : (es : List Extent) (m : Bool) → m ≡ ascending follows es → m ≡ (ascending extentBefore es && ascending clear es)
+pub follows-both : (es : List Extent) (m : Bool) → m ≡ ascending follows es → m ≡ (ascending extentBefore es && neighbours apart es)
 unfolding follows
-follows-both es m e = e ∙ ascending-both extentBefore clear es
+follows-both es m e = e ∙ ascending-both extentBefore apart es
 
 -- no record, or one
-pub follows-empty : (n : ℕ) (s : List ℕ) → n ≡ 0 → true ≡ (ascending extentBefore (decodeBook decodeExtent extentBytes n s) && ascending clear (decodeBook decodeExtent extentBytes n s))
-unfolding ascending
+pub follows-empty : (n : ℕ) (s : List ℕ) → n ≡ 0 → true ≡ (ascending extentBefore (decodeBook decodeExtent extentBytes n s) && neighbours apart (decodeBook decodeExtent extentBytes n s))
+unfolding neighbours
 follows-empty n s e = rw (e, decodeBook-none decodeExtent 33 s) refl
 
 -- two records in hand that were compared are neighbours in the book
@@ -101,11 +101,11 @@ module _ (s : List ℕ) (n i : ℕ) (m : Bool) (a b : Extent) (z : 0 < i) (p : a
   extents-more h t = follow-more follows decodeExtent extentBytes s i m z h step t
 
   -- failed
-  pub extents-not : i < n → not m ≡ true → false ≡ (ascending extentBefore (decodeBook decodeExtent extentBytes n s) && ascending clear (decodeBook decodeExtent extentBytes n s))
+  pub extents-not : i < n → not m ≡ true → false ≡ (ascending extentBefore (decodeBook decodeExtent extentBytes n s) && neighbours apart (decodeBook decodeExtent extentBytes n s))
   extents-not l t = follows-both (decodeBook decodeExtent extentBytes n s) false (ordered-not follows decodeExtent extentBytes s n i m z l step t)
 
 -- all extents were compared
-pub extents-all : (s : List ℕ) (n i : ℕ) → n ≤ i → Follow follows decodeExtent extentBytes s i → true ≡ (ascending extentBefore (decodeBook decodeExtent extentBytes n s) && ascending clear (decodeBook decodeExtent extentBytes n s))
+pub extents-all : (s : List ℕ) (n i : ℕ) → n ≤ i → Follow follows decodeExtent extentBytes s i → true ≡ (ascending extentBefore (decodeBook decodeExtent extentBytes n s) && neighbours apart (decodeBook decodeExtent extentBytes n s))
 extents-all s n i l h = follows-both (decodeBook decodeExtent extentBytes n s) true (ordered-all follows decodeExtent extentBytes s n i l h)
 
 -- the first extent
@@ -125,7 +125,7 @@ module _ (e f : Extent) (m : Bool) (p : m ≡ extentBefore e f) where
   follows-not t = rw (← p, not-true m t) refl
 
   -- in order: it is left to the overlap
-  pub follows-clear : (o : Bool) → not m ≡ false → o ≡ clear e f → o ≡ follows e f
+  pub follows-clear : (o : Bool) → not m ≡ false → o ≡ apart e f → o ≡ follows e f
   unfolding follows
   follows-clear o t q = rw (← p, not-false m t, ← q) refl
 

@@ -17,7 +17,7 @@ use Rattle.rules.specs.Card.{cardBytes, decodeCard}
 use Rattle.rules.specs.Extent.{extentBytes, decodeExtent, covers}
 use Rattle.rules.specs.Group.{groupBytes, decodeGroup}
 use Rattle.rules.specs.Book.{decodeBook}
-use Rattle.rules.specs.Inspect.{lastFrom}
+use Rattle.rules.specs.Inspect.{floorExtent}
 use Rattle.rules.proofs.ListLaws.{if-true, if-false, test-cases, clash, any-index, filter-yes, filter-no, filter-none, find-at, find-none}
 use Rattle.rules.proofs.BookLaws.{length-decodeBook, getD-decodeBook}
 use Rattle.format.specs.declared.card.Card.{Card}
@@ -230,7 +230,7 @@ module _ {A : Type 0} (decode : List ℕ → A) (w : ℕ) (s : List ℕ) where
 
 -- of extents up to a block that is the last one from there
 pub last-extent : (object block n : ℕ) (s : List ℕ) (r : Found) → FoundLast (extentUpTo object block) decodeExtent extentBytes n s r → LastExtent object block n s r
-unfolding lastFrom
+unfolding floorExtent
 last-extent object block n s r h = record { place = h .place; found = h .found; within = h .within }
 
 -- ---- the tests of one record

@@ -13,8 +13,8 @@ use Rattle.rules.specs.Card.{Card}
 use Rattle.rules.specs.Extent.{Extent, extentBytes, decodeExtent, extentBefore}
 use Rattle.rules.specs.Group.{Group}
 use Rattle.rules.specs.Book.{decodeBook, zeroBehind}
-use Rattle.rules.specs.Inspect.{lastFrom}
-use Rattle.rules.specs.Integrity.{clear}
+use Rattle.rules.specs.Inspect.{floorExtent}
+use Rattle.rules.specs.Integrity.{apart}
 use Rattle.book.specs.declared.Found.{Found}
 use Rattle.book.specs.declared.Found.the-variants.{At, Nothing}
 
@@ -76,7 +76,7 @@ extentUpTo object block e = eqb (e .object) object && leb (e .logical) block
 -- the last extent of an object that starts at a block or before was found, as the rules have it, and at its place
 pub record LastExtent (object block n : ℕ) (s : List ℕ) (r : Found) : Type 0 where
   pub place : placeOf r ≡ lastPlace (extentUpTo object block) (decodeBook decodeExtent extentBytes n s)
-  pub found : foundIn decodeExtent extentBytes s r ≡ lastFrom (decodeBook decodeExtent extentBytes n s) object block
+  pub found : foundIn decodeExtent extentBytes s r ≡ floorExtent (decodeBook decodeExtent extentBytes n s) object block
   pub within : (i : ℕ) → placeOf r ≡ some i → i < n
 
 -- the group with a key
@@ -87,9 +87,9 @@ groupIs object number g = eqb (g .object) object && eqb (g .number) number
 abbrev pub groupUnder : ℕ → ℕ → Group → Bool
 groupUnder object number g = pairBefore (g .object) (g .number) object number
 
--- an extent stands before the next, and keeps clear of it
+-- an extent stands before the next, and keeps apart from it
 unfoldable pub follows : Extent → Extent → Bool
-follows e f = extentBefore e f && clear e f
+follows e f = extentBefore e f && apart e f
 
 -- ---- an exchange
 

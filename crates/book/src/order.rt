@@ -1,15 +1,15 @@
-// The tests of a book: its records ascend, extents of one file keep clear of each other, and zeros stand behind the last record.
+// The tests of a book: its records ascend, extents of one file keep apart from each other, and zeros stand behind the last record.
 ghost use mathlib.Core.Path.{_≡_};
 ghost use mathlib.Core.Bool.{_&&_};
 ghost use Prim.Native.Nat.{_+_, _-_, _*_, _≤_, _<_};
 ghost use lib.ListN.{length, drop};
 ghost use Rattle.rules.specs.Bytes.{allZero};
-ghost use Rattle.rules.specs.Lists.{ascending};
+ghost use Rattle.rules.specs.Lists.{ascending, neighbours};
 ghost use Rattle.rules.specs.Card.{cardBytes, decodeCard, cardBefore};
 ghost use Rattle.rules.specs.Extent.{extentBytes, decodeExtent, extentBefore};
 ghost use Rattle.rules.specs.Group.{groupBytes, decodeGroup, groupBefore};
 ghost use Rattle.rules.specs.Book.{decodeBook, zeroBehind};
-ghost use Rattle.rules.specs.Integrity.{clear};
+ghost use Rattle.rules.specs.Integrity.{apart};
 ghost use Rattle.format.specs.Records.{extentOf};
 ghost use Rattle.book.specs.Places.{recordAt, follows};
 use format::extent::Extent;
@@ -103,7 +103,7 @@ pub fn groups_ordered(s: &[u8], n: usize) -> bool
     true
 }
 
-// Whether an extent stands before the next and keeps clear of it.
+// Whether an extent stands before the next and keeps apart from it.
 fn extent_follows(e: Extent, next: Extent) -> bool
     ensures { λ r. ⌜ r ≡ follows (extentOf e) (extentOf next) ⌝ }
 {
@@ -113,10 +113,10 @@ fn extent_follows(e: Extent, next: Extent) -> bool
     e.clear(next)
 }
 
-// Whether the first `n` extents ascend by key and keep clear of each other. Each is decoded once: the one before is kept.
+// Whether the first `n` extents ascend by key and keep apart from each other. Each is decoded once: the one before is kept.
 pub fn extents_ordered(s: &[u8], n: usize) -> bool
     requires { ⌜ extentBytes * n ≤ length (now s) ⌝ }
-    ensures { λ r. ⌜ r ≡ (ascending extentBefore (decodeBook decodeExtent extentBytes n (now (s .entry))) && ascending clear (decodeBook decodeExtent extentBytes n (now (s .entry)))) ⌝ }
+    ensures { λ r. ⌜ r ≡ (ascending extentBefore (decodeBook decodeExtent extentBytes n (now (s .entry))) && neighbours apart (decodeBook decodeExtent extentBytes n (now (s .entry)))) ⌝ }
 {
     if n == 0 {
         return true;

@@ -8,7 +8,7 @@ use borrow.Author.Tests.{eqb-true, ltb-true, leb-true, leb-false, not-true, not-
 use lib.Dec.{eqb, leb, ltb}
 use Rattle.rules.specs.Lists.{pairBefore}
 use Rattle.rules.specs.Extent.{extentEnd, deviceEnd, joins, covers}
-use Rattle.rules.specs.Integrity.{clear}
+use Rattle.rules.specs.Integrity.{apart}
 use Rattle.rules.proofs.ListLaws.{and-right}
 use Rattle.format.specs.declared.extent.Extent.{Extent}
 use Rattle.format.specs.Records.{extentOf}
@@ -120,14 +120,14 @@ module _ (e f : Extent) where
           (λ x. let y : e .count ≤ 4294967295 - f .count = leb-true (e .count) (4294967295 - f .count) x in le-leb (e .count + f .count) 4294967295 (omega arith))
           (λ x. let y : e .count + f .count ≤ 4294967295 = leb-true (e .count + f .count) 4294967295 x in le-leb (e .count) (4294967295 - f .count) (omega arith)))
 
-  -- extents of different files are clear of each other
-  pub clear-file : (e .object ≡ f .object → ⊥) → true ≡ clear (extentOf e) (extentOf f)
-  unfolding clear extentOf
+  -- extents of different files are apart from each other
+  pub clear-file : (e .object ≡ f .object → ⊥) → true ≡ apart (extentOf e) (extentOf f)
+  unfolding apart extentOf
   clear-file n = rw (ne-eqb (e .object) (f .object) n) refl
 
   -- those of one file by where the first ends
-  pub clear-end : (m : Bool) → e .object ≡ f .object → m ≡ leb (e .logical + e .count) (f .logical) → m ≡ clear (extentOf e) (extentOf f)
-  unfolding clear extentOf extentEnd
+  pub clear-end : (m : Bool) → e .object ≡ f .object → m ≡ leb (e .logical + e .count) (f .logical) → m ≡ apart (extentOf e) (extentOf f)
+  unfolding apart extentOf extentEnd
   clear-end m o p = rw (eq-eqb (e .object) (f .object) o) p
 
   -- the counts of two that join have a sum

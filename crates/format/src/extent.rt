@@ -7,7 +7,7 @@ ghost use lib.Dec.{eqb, leb};
 ghost use lib.ListN.{length};
 ghost use Rattle.rules.specs.Bytes.{part, patch};
 ghost use Rattle.rules.specs.Extent.{extentBytes, extentKey, encodeExtent, decodeExtent, extentFixed, extentBefore, extentEnd, deviceEnd, joins, joined, covers, blockOf};
-ghost use Rattle.rules.specs.Integrity.{clear};
+ghost use Rattle.rules.specs.Integrity.{apart};
 ghost use Rattle.format.specs.Records.{extentOf};
 
 // `count` blocks of the file of `object`, from its block `logical` on, stand at the device's blocks from `physical` on.
@@ -134,8 +134,8 @@ impl Extent {
     }
 
     // Whether `next` is of another file, or this one ends where it starts or before.
-    pub fn clear(self, next: Extent) -> bool
-        ensures { λ r. ⌜ r ≡ clear (extentOf self) (extentOf next) ⌝ }
+    pub fn apart(self, next: Extent) -> bool
+        ensures { λ r. ⌜ r ≡ apart (extentOf self) (extentOf next) ⌝ }
     {
         if self.object != next.object {
             return true;

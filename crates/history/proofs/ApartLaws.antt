@@ -7,9 +7,9 @@ use Prim.Native.Nat.{_+_, _≤_, _<_}
 use native.Mathlib.Omega.{arith}
 use lib.Dec.{eqb, ltb, leb}
 use borrow.Author.Tests.{eqb-false, ltb-true, lt-ltb, leb-true, le-leb, ne-eqb, not-true}
-use Rattle.rules.specs.Lists.{filter, ascending}
+use Rattle.rules.specs.Lists.{filter, ascending, neighbours}
 use Rattle.rules.specs.Extent.{Extent, extentBefore, extentEnd}
-use Rattle.rules.specs.Integrity.{clear}
+use Rattle.rules.specs.Integrity.{apart}
 use Rattle.rules.proofs.ListLaws.{test-cases, if-cases, and-intro, or-cases, or-left, or-right, filter-yes, filter-no, pairBefore-cases, pairBefore-first, pairBefore-second, ascending-first, ascending-tail, Each, each-none, each-more, each-all, each-append, each-weaken}
 use Rattle.rules.proofs.PassLaws.{all-each}
 use Rattle.rules.proofs.CountLaws.{filter-nothing}
@@ -104,8 +104,8 @@ ahead-trans e f g (same p h) (other q) = other (omega arith)
 ahead-trans e f g (same p h) (same q k) = same (p ∙ q) (omega arith)
 
 -- neighbours in a book that refusal 2 passes
-ahead-of : (e f : Extent) → extentBefore e f ≡ true → clear e f ≡ true → Ahead e f
-unfolding extentBefore clear extentEnd
+ahead-of : (e f : Extent) → extentBefore e f ≡ true → apart e f ≡ true → Ahead e f
+unfolding extentBefore apart extentEnd
 ahead-of e f b c = pairBefore-cases (Ahead e f) (e .object) (e .logical) (f .object) (f .logical) b other
     (λ q l. or-cases (Ahead e f) (not (eqb (e .object) (f .object))) (leb (e .logical + e .count) (f .logical)) c
     (λ n. absurd (eqb-false (e .object) (f .object) (not-true (eqb (e .object) (f .object)) n) q))
@@ -118,8 +118,8 @@ before-of e f n (other p) = pairBefore-first (e .object) (e .logical) (f .object
 before-of e f n (same p l) = pairBefore-second (e .object) (e .logical) (f .object) (f .logical) p (omega arith)
 
 -- and does not overlap it
-clear-of : (e f : Extent) → Ahead e f → clear e f ≡ true
-unfolding clear extentEnd
+clear-of : (e f : Extent) → Ahead e f → apart e f ≡ true
+unfolding apart extentEnd
 clear-of e f (other p) = or-left (not (eqb (e .object) (f .object))) (leb (e .logical + e .count) (f .logical)) (ap not (ne-eqb (e .object) (f .object) (λ q. omega arith)))
 clear-of e f (same p l) = or-right (not (eqb (e .object) (f .object))) (leb (e .logical + e .count) (f .logical)) (le-leb (e .logical + e .count) (f .logical) l)
 
@@ -147,12 +147,12 @@ laid-tail {e} {es} l = record { filled = each-rest (l .filled); ahead = go (l .a
     go (pairs-more p h) = h
 
 -- the order of neighbours is that of all
-ahead-all : (es : List Extent) → ascending extentBefore es ≡ true → ascending clear es ≡ true → Pairs Ahead es
+ahead-all : (es : List Extent) → ascending extentBefore es ≡ true → neighbours apart es ≡ true → Pairs Ahead es
 ahead-all [] h k = pairs-none
 ahead-all (e ∷ []) h k = pairs-more each-none pairs-none
 ahead-all (e ∷ f ∷ es) h k =
-    step (ahead-of e f (ascending-first extentBefore e f es h) (ascending-first clear e f es k))
-    (ahead-all (f ∷ es) (ascending-tail extentBefore e (f ∷ es) h) (ascending-tail clear e (f ∷ es) k))
+    step (ahead-of e f (ascending-first extentBefore e f es h) (ascending-first apart e f es k))
+    (ahead-all (f ∷ es) (ascending-tail extentBefore e (f ∷ es) h) (ascending-tail apart e (f ∷ es) k))
   where
     step : Ahead e f → Pairs Ahead (f ∷ es) → Pairs Ahead (e ∷ f ∷ es)
     step a (pairs-more p r) = pairs-more (each-more a (each-weaken (λ g q. ahead-trans e f g a q) p)) (pairs-more p r)
@@ -166,19 +166,19 @@ laid-of es a = record {
 
 -- extents laid so are in order
 order-of : {es : List Extent} → Each (λ e. 0 < e .count) es → Pairs Ahead es → ascending extentBefore es ≡ true
-unfolding ascending
+unfolding neighbours
 order-of each-none pairs-none = refl
 order-of (each-more n each-none) (pairs-more p pairs-none) = refl
 order-of (each-more {x = e} n (each-more {x = f} {xs = es} m h)) (pairs-more (each-more a p) (pairs-more q r)) =
     and-intro (extentBefore e f) (ascending extentBefore (f ∷ es)) (before-of e f n a) (order-of (each-more m h) (pairs-more q r))
 
 -- and do not overlap
-clear-all : {es : List Extent} → Pairs Ahead es → ascending clear es ≡ true
-unfolding ascending
+clear-all : {es : List Extent} → Pairs Ahead es → neighbours apart es ≡ true
+unfolding neighbours
 clear-all pairs-none = refl
 clear-all (pairs-more each-none pairs-none) = refl
 clear-all (pairs-more {x = e} (each-more {x = f} {xs = es} a p) (pairs-more q r)) =
-    and-intro (clear e f) (ascending clear (f ∷ es)) (clear-of e f a) (clear-all (pairs-more q r))
+    and-intro (apart e f) (neighbours apart (f ∷ es)) (clear-of e f a) (clear-all (pairs-more q r))
 
 -- so refusal 2 passes them
 pub apart-of : (es : List Extent) → Laid es → Apart es

@@ -13,7 +13,7 @@ use Rattle.rules.specs.Lists.{given, range, any, filter}
 use Rattle.rules.specs.Sizes.{unitBlocks}
 use Rattle.rules.specs.Extent.{Extent, extentEnd, covers, blockOf, mapping}
 use Rattle.rules.specs.Store.{Volume}
-use Rattle.rules.specs.Inspect.{lastFrom, backedUnder, unitMapping}
+use Rattle.rules.specs.Inspect.{floorExtent, backedUnder, unitMapping}
 use Rattle.rules.proofs.ListLaws.{test-cases, clash, maybe-cases, maybe-some, and-left, and-right, and-intro, any-map, filter-yes, filter-no, any-index, none-at, length-range, getD-range, Each, each-none, each-more, each-weaken}
 use Rattle.rules.proofs.CountLaws.{same-test}
 use Rattle.history.proofs.Rewritten.{each-first, each-rest, Apart}
@@ -77,7 +77,7 @@ module _ (v : Volume) (object unit : ℕ) (a : Apart (v .books .extents)) where
 
   -- for books that refusal 2 passes the test fails where none of the unit's blocks is mapped
   pub none-unbacked : ((b : ℕ) → b / unitBlocks ≡ unit → mapping (v .books .extents) object b ≡ none) → backedUnder v object unit ≡ false
-  unfolding backedUnder lastFrom extentEnd
+  unfolding backedUnder floorExtent extentEnd
   none-unbacked h =
       let es : List Extent = v .books .extents in
       let n : Each (λ e. (b : ℕ) → b / unitBlocks ≡ unit → Covers object b e → ⊥) (filter early es) = each-filter early (none-covers object (λ b. b / unitBlocks ≡ unit) es h) in
@@ -94,7 +94,7 @@ module _ (v : Volume) (object unit : ℕ) (a : Apart (v .books .extents)) where
 
   -- and none of them is mapped where it fails
   pub unbacked-none : backedUnder v object unit ≡ false → (b : ℕ) → b / unitBlocks ≡ unit → mapping (v .books .extents) object b ≡ none
-  unfolding backedUnder lastFrom extentEnd
+  unfolding backedUnder floorExtent extentEnd
   unbacked-none h b q = mapping-none object b (each-weaken (λ e k c. k (passes e c) c) (each-passing early es (go (getLast? (filter early es)) refl)))
     where
       es : List Extent

@@ -7,7 +7,7 @@ use Prim.Native.Nat.{ℕ, suc, _+_, _*_, _/_, _≤_}
 use native.Mathlib.Omega.{arith}
 use lib.Dec.{eqb, ltb}
 use borrow.Author.Tests.{eqb-true}
-use Rattle.rules.specs.Lists.{all, filter, count, member, ascending}
+use Rattle.rules.specs.Lists.{all, filter, count, member, ascending, neighbours}
 use Rattle.rules.specs.Sizes.{unitBlocks}
 use Rattle.rules.specs.Store.{Volume}
 use Rattle.rules.specs.Inspect.{unitMapping}
@@ -44,7 +44,7 @@ not-outside (r ∷ rs) l =
 
 -- the rewritten units ascend
 ascending-units : (rs : List Rewritten) → ascending unitBefore rs ≡ true → ascending ltb (unitsIn rs) ≡ true
-unfolding ascending
+unfolding neighbours
 ascending-units [] a = refl
 ascending-units (r ∷ []) a = refl
 ascending-units (r ∷ t ∷ rs) a =

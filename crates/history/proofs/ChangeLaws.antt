@@ -11,11 +11,11 @@ use lib.Dec.{eqb, ltb, leb}
 use lib.ListN.{length, take, getD, replicate, length-append, length-take, length-replicate, List·getD-eq-default}
 use lib.Seq.{ext-getD}
 use borrow.Author.Tests.{eqb-true, eqb-false, eq-eqb, ltb-true, ltb-false, le-ltb, leb-true, not-true, not-false}
-use Rattle.rules.specs.Lists.{range, filter, member, ascending, begun}
+use Rattle.rules.specs.Lists.{range, filter, member, ascending, begun, neighbours}
 use Rattle.rules.specs.Sizes.{blockBytes, unitBytes, mostTransfer}
 use Rattle.rules.specs.Bytes.{part, patch, padded}
 use Rattle.rules.specs.Units.{Change, changeEnd, clipped, writeChange, growChange, unitsOf, touchedUnits, partialTail, writeUnits, growUnits, validLength, writtenIn, coversOld, readsOld, writtenFrom, writtenTo, writtenPart, touches, assembled}
-use Rattle.rules.specs.Kept.{settled}
+use Rattle.rules.specs.Kept.{intact}
 use Rattle.rules.specs.Plain.{overwrite}
 use Rattle.rules.proofs.ListLaws.{clash, test-cases, if-cases, and-left, and-right, and-intro, or-none-right, or-none-left, filter-yes, filter-no, length-range, Each, each-none, each-more, each-weaken}
 use Rattle.rules.proofs.ByteLaws.{length-part, getD-part, length-patch, getD-patch, getD-patch-before, getD-patch-behind, length-padded, part-part}
@@ -107,8 +107,8 @@ module _ (c : Change) (xs ys : List ℕ) (h : Becomes c xs ys) (u : ℕ) where
   untouched-zeros t z = zero-part ys (u * unitBytes) unitBytes (λ j l. untouched-byte t j l ∙ z j l)
 
   -- a block that is kept has the same bytes
-  pub settled-part : (i : ℕ) → settled c u i ≡ true → part (i * blockBytes) blockBytes (part (u * unitBytes) unitBytes xs) ≡ part (i * blockBytes) blockBytes (part (u * unitBytes) unitBytes ys)
-  unfolding settled validLength
+  pub settled-part : (i : ℕ) → intact c u i ≡ true → part (i * blockBytes) blockBytes (part (u * unitBytes) unitBytes xs) ≡ part (i * blockBytes) blockBytes (part (u * unitBytes) unitBytes ys)
+  unfolding intact validLength
   settled-part i s =
       let w : Bool = writtenIn c (u * unitBytes + i * blockBytes) (u * unitBytes + suc i * blockBytes) in
       let q : suc i * blockBytes ≤ min (min (c .oldSize - u * unitBytes) unitBytes) (min (c .newSize - u * unitBytes) unitBytes) =
@@ -124,8 +124,8 @@ module _ (c : Change) (xs ys : List ℕ) (h : Becomes c xs ys) (u : ℕ) where
       ∙ sym (part-part ys (u * unitBytes) unitBytes (i * blockBytes) blockBytes (omega arith))
 
   -- a block that is kept is a whole one
-  pub settled-whole : (i : ℕ) → settled c u i ≡ true → (suc i * blockBytes ≤ validLength (c .oldSize) u) × (suc i * blockBytes ≤ validLength (c .newSize) u)
-  unfolding settled
+  pub settled-whole : (i : ℕ) → intact c u i ≡ true → (suc i * blockBytes ≤ validLength (c .oldSize) u) × (suc i * blockBytes ≤ validLength (c .newSize) u)
+  unfolding intact
   settled-whole i s =
       let q : suc i * blockBytes ≤ min (validLength (c .oldSize) u) (validLength (c .newSize) u) =
       leb-true (suc i * blockBytes) (min (validLength (c .oldSize) u) (validLength (c .newSize) u)) (and-left _ (not (writtenIn c (u * unitBytes + i * blockBytes) (u * unitBytes + suc i * blockBytes))) s) in
@@ -262,8 +262,8 @@ pub record UnitsOf (c : Change) (us : List ℕ) : Type 0 where
 
 -- a range ascends
 ascending-range : (first n : ℕ) → ascending ltb (range first n) ≡ true
-ascending-range first zero = unfold range ascending in refl
-ascending-range first (suc zero) = unfold range ascending in refl
+ascending-range first zero = unfold range neighbours in refl
+ascending-range first (suc zero) = unfold range neighbours in refl
 ascending-range first (suc (suc n)) = go (ascending-range (suc first) (suc n))
   where
     go : ascending ltb (range (suc first) (suc n)) ≡ true → ascending ltb (range first (suc (suc n))) ≡ true
@@ -296,7 +296,7 @@ tail-there size u =
 pub units-grow : (object old new : ℕ) → old < new → UnitsOf (growChange object old new) (growUnits (growChange object old new))
 unfolding growUnits growChange
 units-grow object old new l = record {
-  ordered = unfold partialTail in if-cases (λ (us : List ℕ). ascending ltb us ≡ true) (eqb (old % unitBytes) 0) [] (old / unitBytes ∷ []) (λ e. unfold ascending in refl) (λ e. unfold ascending in refl);
+  ordered = unfold partialTail in if-cases (λ (us : List ℕ). ascending ltb us ≡ true) (eqb (old % unitBytes) 0) [] (old / unitBytes ∷ []) (λ e. unfold neighbours in refl) (λ e. unfold neighbours in refl);
   within = unfold partialTail in if-cases (λ (us : List ℕ). Each (λ u. u * unitBytes < new) us) (eqb (old % unitBytes) 0) [] (old / unitBytes ∷ []) (λ e. each-none) (λ e. each-more (omega arith) each-none);
   few = unfold partialTail in if-cases (λ (us : List ℕ). length us ≤ 100) (eqb (old % unitBytes) 0) [] (old / unitBytes ∷ []) (λ e. omega arith) (λ e. omega arith);
   rest = λ u m. (unfold touches writtenIn changeEnd in le-ltb (max 0 (u * unitBytes)) (min (0 + 0) (u * unitBytes + unitBytes)) (omega arith), valid-same old new u (omega arith) (tail-there old u m));
@@ -367,7 +367,7 @@ module _ (object old offset : ℕ) (bytes : List ℕ) (s : 0 < length (clipped b
           go (no p) = absurd (clash m (member-range-of (old / unitBytes) (offset / unitBytes) (begun we unitBytes - offset / unitBytes) (omega arith) (omega arith)))
 
       first : (n : ℕ) → begun we unitBytes - offset / unitBytes ≡ n → ascending ltb (old / unitBytes ∷ range (offset / unitBytes) (begun we unitBytes - offset / unitBytes)) ≡ true
-      first zero e = rw e (unfold range ascending in refl)
+      first zero e = rw e (unfold range neighbours in refl)
       first (suc n) e = rw e (unfold range in ascending-cons (old / unitBytes) (offset / unitBytes) (range (suc (offset / unitBytes)) n) low (unfold range in ascending-range (offset / unitBytes) (suc n)))
 
   -- a write's units are such a list

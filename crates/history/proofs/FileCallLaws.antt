@@ -10,13 +10,15 @@ use native.Mathlib.Omega.{arith}
 use lib.Dec.{eqb}
 use lib.ListN.{length, drop}
 use borrow.Author.Tests.{eqb-true, eqb-false, ltb-false}
+use Rattle.rules.specs.Integrity.{storeCases}
+use Rattle.rules.specs.Book.{bookPlaces}
 use Rattle.rules.specs.Lists.{any, member}
 use Rattle.rules.specs.Sizes.{unitBytes, mostSize, mostRuns}
 use Rattle.rules.specs.Bytes.{part}
 use Rattle.rules.specs.Card.{Card}
 use Rattle.rules.specs.Extent.{extentBytes}
 use Rattle.rules.specs.Group.{groupBytes}
-use Rattle.rules.specs.Store.{Store, Volume, decode, encodeInto, places, cardOf}
+use Rattle.rules.specs.Store.{Store, Volume, decode, encodeInto, cardOf}
 use Rattle.rules.specs.Refusal.{Refusal, Outcome, numberOf, firstOf, result}
 use Rattle.rules.specs.Refusal.Refusal.{no-card}
 use Rattle.rules.specs.Refusal.Outcome.{refuse, accept}
@@ -24,8 +26,8 @@ use Rattle.rules.specs.Units.{Change, clipped, writeChange, growChange, unitsOf
 use Rattle.rules.specs.Rewrite.{Rewritten, Progress, Plan, rewriteUnits}
 use Rattle.rules.specs.Rewrite.Plan.{refused, planned}
 use Rattle.rules.specs.Finish.{finished}
-use Rattle.rules.specs.Arguments.{pastLimit, belowSize}
-use Rattle.rules.specs.Write.{storeCases, withCard, groupsFull, extentsFull, fitCases, carriedOut, changed, writeFile, writeOutcome, growFile, growOutcome}
+use Rattle.rules.specs.Arguments.{pastLimit, belowSize, withCard}
+use Rattle.rules.specs.Write.{groupsFull, extentsFull, fitCases, carriedOut, changed, writeFile, writeOutcome, growFile, growOutcome}
 use Rattle.rules.specs.Read.{Checked, readLength, checkUnits, handOut, readUnits, readFile, readOutcome}
 use Rattle.rules.specs.Read.Checked.{failed, bytes}
 use Rattle.rules.specs.Call.{call, lentOut, outcome}
@@ -88,8 +90,8 @@ pub record Carried (answer : ℕ) (c : Change) (seconds nanoseconds : ℕ) (s : 
   pub units : List Rewritten
   pub progress : Progress
   pub plan : k ≡ planned units progress
-  pub groups : length (finished c seconds nanoseconds units progress (decode s) .books .groups) ≤ places groupBytes (s .groups)
-  pub extents : length (finished c seconds nanoseconds units progress (decode s) .books .extents) ≤ places extentBytes (s .extents)
+  pub groups : length (finished c seconds nanoseconds units progress (decode s) .books .groups) ≤ bookPlaces groupBytes (s .groups)
+  pub extents : length (finished c seconds nanoseconds units progress (decode s) .books .extents) ≤ bookPlaces extentBytes (s .extents)
   pub done : o ≡ accept answer (encodeInto s (finished c seconds nanoseconds units progress (decode s))) []
 
 -- so it is with an accepted change
@@ -104,8 +106,8 @@ carried answer c seconds nanoseconds s (planned rs p) e =
       units = rs;
       progress = p;
       plan = refl;
-      groups = ltb-false (places groupBytes (s .groups)) (length (v .books .groups)) (t .none .0);
-      extents = ltb-false (places extentBytes (s .extents)) (length (v .books .extents)) (t .none .1 .0);
+      groups = ltb-false (bookPlaces groupBytes (s .groups)) (length (v .books .groups)) (t .none .0);
+      extents = ltb-false (bookPlaces extentBytes (s .extents)) (length (v .books .extents)) (t .none .1 .0);
       done = t .goesOn;
     }
 

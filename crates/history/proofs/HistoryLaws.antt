@@ -10,6 +10,8 @@ use Prim.Native.Nat.{ℕ, _+_}
 use native.Mathlib.Omega.{arith}
 use lib.Dec.{ltb}
 use borrow.Author.Tests.{eq-eqb, ne-eqb}
+use Rattle.rules.specs.Arguments.{withCard}
+use Rattle.rules.specs.Integrity.{storeCases}
 use Rattle.rules.specs.Lists.{if_then_else_, any, filter, count, find, member}
 use Rattle.rules.specs.Sizes.{mostRuns}
 use Rattle.rules.specs.Card.{Card}
@@ -19,7 +21,7 @@ use Rattle.rules.specs.Refusal.Outcome.{refuse}
 use Rattle.rules.specs.Refusal.Refusal.{no-card}
 use Rattle.rules.specs.Fresh.{freshVolume, freshOutcome}
 use Rattle.rules.specs.Enter.{enterCases, enterOutcome}
-use Rattle.rules.specs.Write.{storeCases, withCard, writeFile, writeOutcome, growFile, growOutcome}
+use Rattle.rules.specs.Write.{writeFile, writeOutcome, growFile, growOutcome}
 use Rattle.rules.specs.Read.{readFile, readOutcome}
 use Rattle.rules.specs.Settle.{settleOutcome, fillOutcome}
 use Rattle.rules.specs.Call.{Call, InRange, call, lentOut, outcome}

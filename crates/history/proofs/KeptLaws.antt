@@ -12,7 +12,7 @@ use lib.Dec.{leb}
 use lib.ListN.{length, getD, replicate, length-map, length-replicate, List·getD-eq-default}
 use Rattle.rules.specs.Lists.{if_then_else_, given, range, count}
 use Rattle.rules.specs.Units.{Change}
-use Rattle.rules.specs.Kept.{settled, blocksAfter, candidates, runs, withinLimit, retainedBlocks, wanted, assigned, superseded}
+use Rattle.rules.specs.Kept.{intact, blocksAfter, candidates, runs, withinLimit, retainedBlocks, wanted, assigned, superseded}
 use Rattle.rules.proofs.ListLaws.{if-cases, and-left, and-right, count-yes, count-no, count-le, length-range, getD-map-range}
 use Rattle.history.proofs.MoreLists.{count-cons, count-nil, getD-same}
 
@@ -104,20 +104,20 @@ assigned-kept (none ∷ kept) (b ∷ new) w (suc i) p e =
 -- a block is kept for these reasons
 pub record KeptFor (c : Change) (unit : ℕ) (verified : Bool) (before : List (Option ℕ)) (i p : ℕ) : Type 0 where
   pub checked : verified ≡ true
-  pub unwritten : settled c unit i ≡ true
+  pub unwritten : intact c unit i ≡ true
   pub old : getD before i none ≡ some p
 
 module _ (limit : ℕ) (c : Change) (unit : ℕ) (verified : Bool) (old : List (Option ℕ)) where
   -- one entry of the candidates
   candidate : ℕ → Option ℕ
-  candidate i = if verified && settled c unit i then getD old i none else none
+  candidate i = if verified && intact c unit i then getD old i none else none
 
   -- a candidate has these reasons
   candidate-for : (i p : ℕ) → candidate i ≡ some p → KeptFor c unit verified old i p
   unfolding candidate
   candidate-for i p =
-      if-cases (λ (o : Option ℕ). o ≡ some p → KeptFor c unit verified old i p) (verified && settled c unit i) (getD old i none) none
-      (λ t e. record { checked = and-left verified (settled c unit i) t; unwritten = and-right verified (settled c unit i) t; old = e })
+      if-cases (λ (o : Option ℕ). o ≡ some p → KeptFor c unit verified old i p) (verified && intact c unit i) (getD old i none) none
+      (λ t e. record { checked = and-left verified (intact c unit i) t; unwritten = and-right verified (intact c unit i) t; old = e })
       (λ t e. absurd (Option·none-ne-some p e))
 
   -- there is an entry for each of the unit's blocks

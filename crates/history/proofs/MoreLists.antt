@@ -9,7 +9,7 @@ use native.Mathlib.Omega.{arith}
 use lib.Dec.{eqb, ltb}
 use lib.ListN.{length, getD, getElem?, replicate}
 use borrow.Author.Tests.{eqb-true, eq-eqb, ne-eqb, ltb-true, ltb-false}
-use Rattle.rules.specs.Lists.{if_then_else_, maybe, any, filter, count, find, member, ascending}
+use Rattle.rules.specs.Lists.{if_then_else_, maybe, any, filter, count, find, member, ascending, neighbours}
 use Rattle.rules.proofs.ListLaws.{test-cases, if-true, if-false, and-left, and-intro, or-cases, or-left, or-right, count-append, count-yes, count-no, find-yes, find-no, ascending-first, ascending-tail, Each, each-none, each-more, each-any, each-weaken}
 use Rattle.rules.proofs.CountLaws.{same-test, count-each, count-none, count-filter, member-count, Once, ascending-below}
 use Rattle.rules.proofs.PassLaws.{all-each}
@@ -65,7 +65,7 @@ find-through f φ e (x ∷ xs) =
 -- an order that does not see the function stays
 pub ascending-through : {A : Type 0} (before : A → A → Bool) (φ : A → A) → ((x y : A) → before (φ x) (φ y) ≡ before x y) → (xs : List A) → ascending before xs ≡ true
     → ascending before (map φ xs) ≡ true
-unfolding ascending
+unfolding neighbours
 ascending-through before φ e [] a = refl
 ascending-through before φ e (x ∷ []) a = refl
 ascending-through before φ e (x ∷ y ∷ xs) a =

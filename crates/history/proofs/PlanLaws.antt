@@ -21,7 +21,7 @@ use Rattle.rules.specs.Inspect.{Inspected, inspectUnit, unitMapping}
 use Rattle.rules.specs.Inspect.Inspected.{hole, checked}
 use Rattle.rules.specs.Kept.{blocksAfter, retainedBlocks, wanted, superseded}
 use Rattle.rules.specs.Allocation.{allocateData, tooFew}
-use Rattle.rules.specs.Rewrite.{Progress, Rewritten, Step, Plan, layOut, allocatedAfter, countDisagrees, counted, allocated, replaced, afterRead, rewriteUnit, after, before, andThen, rewriteUnits}
+use Rattle.rules.specs.Rewrite.{Progress, Rewritten, Step, Plan, layOut, allocatedAfter, countDisagrees, counted, allocated, rewriteFrom, afterRead, rewriteUnit, after, before, andThen, rewriteUnits}
 use Rattle.rules.specs.Rewrite.Step.{stopped, untouched, rewritten}
 use Rattle.rules.specs.Rewrite.Plan.{refused, planned}
 use Rattle.rules.proofs.ListLaws.{clash, if-cases, and-left, length-range, Each, each-weaken}
@@ -130,8 +130,8 @@ module _ (limit : ℕ) (v : Volume) (c : Change) (xs ys : List ℕ) (k : Known v
     -- a unit assembled from these old bytes, verified or not
     replaced-is : Share → (verified : Bool) (old : List ℕ) → Stays c xs ys (k .becomes) u old
         → ((i q : ℕ) → KeptFor c u verified (unitOld v c u) i q → blockAt (v .image) q ≡ padded blockBytes (part (i * blockBytes) blockBytes (unitPart u ys)))
-        → StepIs v c ys p u (replaced limit v c u p verified old)
-    unfolding replaced allocated counted
+        → StepIs v c ys p u (rewriteFrom limit v c u p verified old)
+    unfolding rewriteFrom allocated counted
     replaced-is e verified old s same =
         if-cases (StepIs v c ys p u) (tooFew (v .blocks) (v .used) (p .taken) (wanted kept)) (stopped no-space) _ (λ t. step-full)
         (λ t. if-cases (StepIs v c ys p u) (countDisagrees (p .allocated) r) (stopped count-disagrees) (rewritten r) (λ d. absurd (clash (right t) d)) (λ d. step-done (done t)))

@@ -11,7 +11,7 @@ use native.Mathlib.Omega.{arith}
 use lib.Dec.{eqb, ltb}
 use lib.ListN.{length, length-append}
 use borrow.Author.Tests.{eqb-true, eq-eqb, ltb-false, lt-ltb}
-use Rattle.rules.specs.Lists.{count, member, ascending, begun}
+use Rattle.rules.specs.Lists.{count, member, ascending, begun, neighbours}
 use Rattle.rules.specs.Sizes.{blockBytes, unitBytes, mostBlocks}
 use Rattle.rules.specs.Store.{Volume}
 use Rattle.rules.specs.Units.{Change, validLength}
@@ -42,7 +42,7 @@ none-new b = member-count b [] ∙ ap (ltb 0) (count-nil (eqb b))
 
 -- a unit comes before those that are later
 ascending-more : (r : Rewritten) {rs : List Rewritten} → Each (λ t. r .unit < t .unit) rs → ascending unitBefore rs ≡ true → ascending unitBefore (r ∷ rs) ≡ true
-unfolding ascending
+unfolding neighbours
 ascending-more r each-none a = refl
 ascending-more r (each-more {x = t} {xs = ts} l h) a = and-intro (unitBefore r t) (ascending unitBefore (t ∷ ts)) (lt-ltb (r .unit) (t .unit) l) a
 
@@ -81,7 +81,7 @@ module _ {v : Volume} {c : Change} {ys : List ℕ} where
 
   -- the rewritten units ascend
   pub planned-order : {us : List ℕ} {p q : Progress} {rs : List Rewritten} → Planned v c ys us p rs q → ascending ltb us ≡ true → ascending unitBefore rs ≡ true
-  planned-order plan-end a = unfold ascending in refl
+  planned-order plan-end a = unfold neighbours in refl
   planned-order (plan-hole {u = u} {us = us} h d) a = planned-order d (ascending-tail ltb u us a)
   planned-order (plan-unit {u = u} {us = us} {r = r} h d) a =
       ascending-more r (each-weaken (λ t m. let l : u < t .unit = member-each (λ x. u < x) (ascending-below u us a) (t .unit) m in omega (arith, h .unit)) (planned-among d))

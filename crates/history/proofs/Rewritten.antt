@@ -9,11 +9,11 @@ use native.Mathlib.Omega.{arith}
 use lib.Dec.{eqb, ltb}
 use lib.ListN.{length, getElem?}
 use borrow.Author.Tests.{not-true, ltb-true, lt-ltb}
-use Rattle.rules.specs.Lists.{if_then_else_, all, ascending}
+use Rattle.rules.specs.Lists.{if_then_else_, all, ascending, neighbours}
 use Rattle.rules.specs.Sizes.{unitBlocks}
 use Rattle.rules.specs.Extent.{Extent, extentBefore}
 use Rattle.rules.specs.Store.{Volume}
-use Rattle.rules.specs.Integrity.{ordered, noneEmpty, noOverlap, clear}
+use Rattle.rules.specs.Integrity.{ordered, noneEmpty, noOverlap, apart}
 use Rattle.rules.specs.Rewrite.{Rewritten}
 use Rattle.rules.specs.Demand.{Place}
 use Rattle.rules.specs.Card.{cardBefore}
@@ -80,7 +80,7 @@ units-behind {r} {rs} u =
 pub record Apart (es : List Extent) : Type 0 where
   pub order : ascending extentBefore es ≡ true
   pub filled : all (λ e. ltb 0 (e .count)) es ≡ true
-  pub apart : ascending clear es ≡ true
+  pub apart : neighbours apart es ≡ true
 
 -- a lawful volume's are such
 pub apart-lawful : (v : Volume) → Lawful v → Apart (v .books .extents)

@@ -11,6 +11,7 @@ use native.Mathlib.Omega.{arith}
 use lib.Dec.{eqb, leb}
 use lib.ListN.{length, getD, List·getD-eq-default}
 use borrow.Author.Tests.{eqb-true, leb-true, le-leb}
+use Rattle.rules.specs.Book.{bookPlaces}
 use Rattle.rules.specs.Lists.{maybe, given, all, ascending, begun}
 use Rattle.rules.specs.Sizes.{blockBytes, unitBlocks, unitBytes, mostBlocks, mostSize}
 use Rattle.rules.specs.Bytes.{Bytes, part}
@@ -20,7 +21,7 @@ use Rattle.rules.specs.Group.{groupBytes, groupBefore}
 use Rattle.rules.specs.Map.{mapBytes}
 use Rattle.rules.specs.Checksum.{unitChecksum}
 use Rattle.rules.specs.Crc32c.{fromBits, complement, message, dividend, divide, crc32c}
-use Rattle.rules.specs.Store.{Store, Volume, headOf, encodeInto, places, blockAt, cardOf}
+use Rattle.rules.specs.Store.{Store, Volume, headOf, encodeInto, blockAt, cardOf}
 use Rattle.rules.specs.Integrity.{ordered, timesRight, noneEmpty, noOverlap, onDevice, inFile, inFiles}
 use Rattle.rules.specs.Units.{Change, validLength}
 use Rattle.rules.specs.Inspect.{Inspected, inspectUnit, validBytes, backedBytes, validMapping}
@@ -261,7 +262,7 @@ module _ {v : Volume} {c : Change} {xs ys : List ℕ} {us : List ℕ} {p : Progr
       unit-in r m = (omega (arith, m .inside, k .end), rw (m .right .checksum) (checksum-below (v .uuid) (c .object) (r .unit) (unitPart (r .unit) ys)))
 
   -- there is room for it
-  room-after : (s : Store) → Room s v → length after-extents ≤ places extentBytes (s .extents) → length (finishedGroups (c .object) rs (v .books .groups)) ≤ places groupBytes (s .groups) → Room s after-all
+  room-after : (s : Store) → Room s v → length after-extents ≤ bookPlaces extentBytes (s .extents) → length (finishedGroups (c .object) rs (v .books .groups)) ≤ bookPlaces groupBytes (s .groups) → Room s after-all
   unfolding finished
   room-after s r le lg = record {
     buffers = r .buffers;
@@ -280,8 +281,8 @@ module _ {v : Volume} {c : Change} {xs ys : List ℕ} {us : List ℕ} {p : Progr
       bytes-finishedImage (v .blocks) (laid-all d) (each-weaken (λ r m. rw (m .right .bytes) (bytes-part ys (r .unit * unitBytes) unitBytes w)) (made-all d)) (v .image) b
 
   -- so the store that is left says it
-  pub says-after : (s : Store) → Room s v → Bytes (v .image) → Bytes ys → length after-extents ≤ places extentBytes (s .extents)
-      → length (finishedGroups (c .object) rs (v .books .groups)) ≤ places groupBytes (s .groups) → Says (encodeInto s after-all) after-all
+  pub says-after : (s : Store) → Room s v → Bytes (v .image) → Bytes ys → length after-extents ≤ bookPlaces extentBytes (s .extents)
+      → length (finishedGroups (c .object) rs (v .books .groups)) ≤ bookPlaces groupBytes (s .groups) → Says (encodeInto s after-all) after-all
   says-after s r b w le lg =
       let z = buffers-sized s (r .buffers) in
       says-encodeInto s after-all (room-after s r le lg) (fits-after (omega (arith, le, z .extents .most)) (omega (arith, lg, z .groups .most))) lawful-after (bytes-after b w)

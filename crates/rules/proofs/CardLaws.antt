@@ -18,12 +18,12 @@ pub record CardFits (c : Card) : Type 0 where
   pub object : c .object < 2 ^ 64
   pub size : c .size < 2 ^ 63
   pub allocated : c .allocated < 2 ^ 35
-  pub seconds : c .seconds < 2 ^ 63
-  pub nanoseconds : c .nanoseconds < 2 ^ 30
+  pub seconds : c .changed .seconds < 2 ^ 63
+  pub nanoseconds : c .changed .nanoseconds < 2 ^ 30
 
 -- the fields in their order, the spare one zero
 values : Card → List ℕ
-values c = c .object ∷ c .size ∷ c .allocated ∷ c .seconds ∷ c .nanoseconds ∷ 0 ∷ []
+values c = c .object ∷ c .size ∷ c .allocated ∷ c .changed .seconds ∷ c .changed .nanoseconds ∷ 0 ∷ []
 
 -- they fit their widths
 fit-card : (c : Card) → CardFits c → Fit cardWidths (values c)
@@ -49,8 +49,7 @@ decode-encodeCard c f =
       object = getD (v i) 0 0;
       size = getD (v i) 1 0;
       allocated = getD (v i) 2 0;
-      seconds = getD (v i) 3 0;
-      nanoseconds = getD (v i) 4 0;
+      changed = record { seconds = getD (v i) 3 0; nanoseconds = getD (v i) 4 0 };
     }
 
 -- the bytes that were read are written

@@ -6,6 +6,7 @@ use mathlib.Core.Bool.{true, false}
 use mathlib.Core.Option.{Option, none, some}
 use Prim.Native.Nat.{ℕ, _*_}
 use lib.ListN.{length}
+use Rattle.rules.specs.Sizes.{mostRuns}
 use Rattle.rules.specs.Extent.{Extent, joins}
 use Rattle.rules.specs.Group.{Group, emptyGroup, setChecksumSlot, compactGroup}
 use Rattle.rules.specs.Units.{writeChange, growChange, writeUnits}
@@ -27,7 +28,7 @@ extent logical physical count = record { object = 7; logical = logical; physical
 
 -- what is kept of n full blocks at these places, checked, by a change that writes none of them
 pub keptOf : List (Option ℕ) → List (Option ℕ)
-keptOf old = retainedBlocks 4 (growChange 7 (4096 * length old) (4096 * length old)) 0 true old
+keptOf old = retainedBlocks mostRuns (growChange 7 (4096 * length old) (4096 * length old)) 0 true old
 
 -- the units of one byte written into a file of this size
 pub unitsOfByte : ℕ → ℕ → List ℕ

@@ -10,7 +10,7 @@ use native.Mathlib.Omega.{arith}
 use lib.Dec.{eqb, ltb}
 use lib.ListN.{length, take, drop, take-append-drop}
 use borrow.Author.Tests.{eqb-true, eqb-false, eq-eqb, ne-eqb, ltb-true, lt-ltb, le-ltb}
-use Rattle.rules.specs.Lists.{range, any, filter, count, member, ascending}
+use Rattle.rules.specs.Lists.{range, any, filter, count, member, ascending, neighbours}
 use Rattle.rules.proofs.ListLaws.{test-cases, clash, and-left, and-right, and-intro, or-cases, or-left, or-right, filter-yes, filter-no, count-append, count-yes, count-no, range-add, member-append, Each, each-none, each-more, each-weaken, each-any, ascending-first, ascending-tail}
 
 -- ---- tests
@@ -326,13 +326,13 @@ count-member n (x ∷ xs) h (each-more l r) =
 
 -- a number below the first of an ascending list goes in front
 pub ascending-cons : (x y : ℕ) (ys : List ℕ) → x < y → ascending ltb (y ∷ ys) ≡ true → ascending ltb (x ∷ y ∷ ys) ≡ true
-unfolding ascending
+unfolding neighbours
 ascending-cons x y ys l h = and-intro (ltb x y) (ascending ltb (y ∷ ys)) (lt-ltb x y l) h
 
 -- what is kept of the numbers behind one ascends with it
 ascending-behind : (f : ℕ → Bool) (first n x : ℕ) → x < first → ascending ltb (x ∷ filter f (range first n)) ≡ true
 unfolding range
-ascending-behind f first zero x l = unfold filter ascending in refl
+ascending-behind f first zero x l = unfold filter neighbours in refl
 ascending-behind f first (suc n) x l =
     test-cases (ascending ltb (x ∷ filter f (first ∷ range (suc first) n)) ≡ true) (f first)
     (λ p. rw (filter-yes f first (range (suc first) n) p)
@@ -342,7 +342,7 @@ ascending-behind f first (suc n) x l =
 -- what is kept of a range ascends
 pub ascending-filter : (f : ℕ → Bool) (first n : ℕ) → ascending ltb (filter f (range first n)) ≡ true
 unfolding range
-ascending-filter f first zero = unfold filter ascending in refl
+ascending-filter f first zero = unfold filter neighbours in refl
 ascending-filter f first (suc n) =
     test-cases (ascending ltb (filter f (first ∷ range (suc first) n)) ≡ true) (f first)
     (λ p. rw (filter-yes f first (range (suc first) n) p) (ascending-behind f (suc first) n first (omega arith)))

@@ -9,15 +9,17 @@ use native.Mathlib.Omega.{arith}
 use lib.Dec.{eqb, leb, ltb}
 use lib.ListN.{length, getD}
 use borrow.Author.Tests.{eqb-false, ne-eqb, leb-false, ltb-false, lt-ltb, eq-eqb}
+use Rattle.rules.specs.Time.{Time}
+use Rattle.rules.specs.Book.{bookPlaces}
 use Rattle.rules.specs.Lists.{all, any, filter, find, insert, ascending, begun}
 use Rattle.rules.specs.Sizes.{blockBytes, mostSeconds, nanosecondsBound}
 use Rattle.rules.specs.Bytes.{Bytes}
 use Rattle.rules.specs.Card.{Card, cardBytes, cardBefore}
 use Rattle.rules.specs.Extent.{Extent, extentBefore, extentEnd}
 use Rattle.rules.specs.Group.{groupBefore}
-use Rattle.rules.specs.Store.{Store, StoreBytes, Volume, decode, decodeWith, headOf, encodeInto, places, cardOf}
+use Rattle.rules.specs.Store.{Store, StoreBytes, Volume, decode, decodeWith, headOf, encodeInto, cardOf}
 use Rattle.rules.specs.Refusal.{result}
-use Rattle.rules.specs.Integrity.{ordered, timesRight, noneEmpty, noOverlap, onDevice, inFile, inFiles, mappedRight, reservedRight, retiredRight}
+use Rattle.rules.specs.Integrity.{ordered, timesRight, noneEmpty, noOverlap, onDevice, inFile, inFiles, mappedRight, reservedRight, retiredRight, cardTimesRight, storeCases, mappedUsed, mappedLive, mappedUnreserved}
 use Rattle.rules.specs.Arguments.{timeWrong, hasCard, cardsFull}
 use Rattle.rules.specs.Enter.{newCard, entered, enterCases, enterOutcome}
 use Rattle.rules.specs.Call.{InRange, call, lentOut, outcome}
@@ -26,7 +28,7 @@ use Rattle.rules.proofs.ListLaws.{order-cases, if-cases, or-left, or-ri
 use Rattle.rules.proofs.CardLaws.{CardFits}
 use Rattle.rules.proofs.StoreLaws.{VolumeFits}
 use Rattle.rules.proofs.PassLaws.{each-passed, all-passed, Passes, Lawful, Room, BuffersSized, passes-sized, lawful-decode, room-decode, decode-fits, Says, says-encodeInto}
-use Rattle.rules.proofs.OutcomeLaws.{through}
+use Rattle.rules.proofs.OutcomeLaws.{through, store-passes}
 
 -- ---- an element put in
 
@@ -101,15 +103,15 @@ module _ (c : Card) (v : Volume) where
       any-insert cardBefore f c (v .books .cards) ∙ or-right (f c) (any f (v .books .cards)) h
 
   -- the volume stays lawful
-  pub entered-lawful : NoCard v (c .object) → c .nanoseconds < nanosecondsBound → Lawful v → Lawful (entered c v)
-  unfolding entered ordered timesRight noneEmpty noOverlap onDevice inFiles mappedRight reservedRight retiredRight
+  pub entered-lawful : NoCard v (c .object) → cardTimesRight c ≡ true → Lawful v → Lawful (entered c v)
+  unfolding entered ordered timesRight noneEmpty noOverlap onDevice inFiles mappedRight mappedUsed mappedLive mappedUnreserved reservedRight retiredRight
   entered-lawful n t l =
       let b = v .books in
       let o = each-passed (ascending cardBefore (b .cards)) (ascending extentBefore (b .extents) ∷ ascending groupBefore (b .groups) ∷ []) (l .order) in
       record {
         order = all-passed (ascending cardBefore (insert cardBefore c (b .cards))) (ascending extentBefore (b .extents) ∷ ascending groupBefore (b .groups) ∷ [])
             (ascending-insert cardBefore c (b .cards) (o .0) (apart-cards n), o .1);
-        times = all-insert cardBefore (λ d. ltb (d .nanoseconds) nanosecondsBound) c (b .cards) (lt-ltb (c .nanoseconds) nanosecondsBound t) (l .times);
+        times = all-insert cardBefore cardTimesRight c (b .cards) t (l .times);
         filled = l .filled;
         apart = l .apart;
         device = l .device;
@@ -145,7 +147,7 @@ module _ (c : Card) (v : Volume) where
       }
 
   -- there is room for it
-  pub entered-room : (s : Store) → length (v .books .cards) < places cardBytes (s .cards) → Room s v → Room s (entered c v)
+  pub entered-room : (s : Store) → length (v .books .cards) < bookPlaces cardBytes (s .cards) → Room s v → Room s (entered c v)
   unfolding entered
   entered-room s l r = record {
     buffers = r .buffers;
@@ -160,46 +162,50 @@ module _ (c : Card) (v : Volume) where
 -- ---- the call
 
 -- a time that refusal 7 lets pass
-pub record TimeRight (seconds nanoseconds : ℕ) : Type 0 where
-  pub early : seconds ≤ mostSeconds
-  pub part : nanoseconds < nanosecondsBound
+pub record TimeRight (time : Time) : Type 0 where
+  pub early : time .seconds ≤ mostSeconds
+  pub part : time .nanoseconds < nanosecondsBound
 
 -- its test says so
-pub time-right : (seconds nanoseconds : ℕ) → timeWrong seconds nanoseconds ≡ false → TimeRight seconds nanoseconds
+pub time-right : (time : Time) → timeWrong time ≡ false → TimeRight time
 unfolding timeWrong
-time-right seconds nanoseconds h =
-    let w : Bool = ltb mostSeconds seconds in
-    let x : Bool = leb nanosecondsBound nanoseconds in
-    record { early = ltb-false mostSeconds seconds (or-none-left w x h); part = leb-false nanosecondsBound nanoseconds (or-none-right w x h) }
-
--- enter's tests pass, and it leaves the buffers that say the volume with the new card
-pub record EnterAccepted (object seconds nanoseconds : ℕ) (s : Store) : Type 0 where
-  pub passes : Passes s
-  pub new : NoCard (decode s) object
-  pub time : TimeRight seconds nanoseconds
-  pub room : length (decode s .books .cards) < places cardBytes (s .cards)
-  pub store : call (enter object seconds nanoseconds) s .store ≡ encodeInto s (entered (newCard object seconds nanoseconds) (decode s))
-
--- so it is with an accepted one
-pub enter-accepted : (object seconds nanoseconds : ℕ) (s : Store) → call (enter object seconds nanoseconds) s .number ≡ 0 → EnterAccepted object seconds nanoseconds s
-unfolding call outcome lentOut enterOutcome enterCases cardsFull result
-enter-accepted object seconds nanoseconds s e =
-    let t = through s [] (enterCases object seconds nanoseconds s) _ e in
-    let n = t .none in
+time-right time h =
+    let w : Bool = ltb mostSeconds (time .seconds) in
+    let x : Bool = leb nanosecondsBound (time .nanoseconds) in
     record {
-      passes = record { lengths = n .0; rules = n .1 .0 };
-      new = no-card (decode s) object (n .1 .1 .0);
-      time = time-right seconds nanoseconds (n .1 .1 .1 .0);
-      room = leb-false (places cardBytes (s .cards)) (length (decode s .books .cards)) (n .1 .1 .1 .1 .0);
-      store = ap (λ o. result s [] o .store) (t .goesOn);
+      early = ltb-false mostSeconds (time .seconds) (or-none-left w x h);
+      part = leb-false nanosecondsBound (time .nanoseconds) (or-none-right w x h);
     }
 
-module _ (s : Store) (b : StoreBytes s) (object seconds nanoseconds : ℕ) (i : InRange (enter object seconds nanoseconds)) (e : call (enter object seconds nanoseconds) s .number ≡ 0) where
+-- enter's tests pass, and it leaves the buffers that say the volume with the new card
+pub record EnterAccepted (object : ℕ) (time : Time) (s : Store) : Type 0 where
+  pub passes : Passes s
+  pub new : NoCard (decode s) object
+  pub timely : TimeRight time
+  pub room : length (decode s .books .cards) < bookPlaces cardBytes (s .cards)
+  pub store : call (enter object time) s .store ≡ encodeInto s (entered (newCard object time) (decode s))
+
+-- so it is with an accepted one
+pub enter-accepted : (object : ℕ) (time : Time) (s : Store) → call (enter object time) s .number ≡ 0 → EnterAccepted object time s
+unfolding call outcome lentOut enterOutcome enterCases cardsFull result
+enter-accepted object time s e =
+    let f = through s [] (storeCases s) _ e in
+    let t = through s [] (enterCases object time s) _ (sym (ap (λ o. result s [] o .number) (f .goesOn)) ∙ e) in
+    let n = t .none in
+    record {
+      passes = store-passes s (f .none);
+      new = no-card (decode s) object (n .0);
+      timely = time-right time (n .1 .0);
+      room = leb-false (bookPlaces cardBytes (s .cards)) (length (decode s .books .cards)) (n .1 .1 .0);
+      store = ap (λ o. result s [] o .store) (f .goesOn ∙ t .goesOn);
+    }
+
+module _ (s : Store) (b : StoreBytes s) (object : ℕ) (time : Time) (i : InRange (enter object time)) (e : call (enter object time) s .number ≡ 0) where
   -- the store that an accepted enter leaves is one of bytes, passes refusals 1 and 2, and says the volume with the new card
-  pub enter-says : Says (call (enter object seconds nanoseconds) s .store) (entered (newCard object seconds nanoseconds) (decode s))
+  pub enter-says : Says (call (enter object time) s .store) (entered (newCard object time) (decode s))
   enter-says =
-      let a : EnterAccepted object seconds nanoseconds s = enter-accepted object seconds nanoseconds s e in
-      let c : Card = newCard object seconds nanoseconds in
+      let a : EnterAccepted object time s = enter-accepted object time s e in
+      let c : Card = newCard object time in
       let v : Volume = decode s in
       let p : Passes s = a .passes in
       let z : BuffersSized s = passes-sized s p in
@@ -208,19 +214,19 @@ module _ (s : Store) (b : StoreBytes s) (object seconds nanoseconds : ℕ) (i : 
         object = i .0;
         size = omega arith;
         allocated = omega arith;
-        seconds = omega (arith, a .time .early);
-        nanoseconds = omega (arith, a .time .part);
+        seconds = omega (arith, a .timely .early);
+        nanoseconds = omega (arith, a .timely .part);
       } in
-      let l : Lawful (entered c v) = unfold newCard in entered-lawful c v (a .new) (a .time .part) (lawful-decode s p) in
+      let l : Lawful (entered c v) = unfold newCard in entered-lawful c v (a .new) (unfold cardTimesRight in lt-ltb (time .nanoseconds) nanosecondsBound (a .timely .part)) (lawful-decode s p) in
       let m : Bytes (entered c v .image) = unfold entered decode decodeWith in b .image in
       rw (a .store) (says-encodeInto s (entered c v) (entered-room c v s (a .room) (room-decode s p)) (entered-fits c v g n (decode-fits s p b)) l m)
 
   -- the entered object has the new card
-  pub enter-card : cardOf (decode (call (enter object seconds nanoseconds) s .store)) object ≡ some (newCard object seconds nanoseconds)
+  pub enter-card : cardOf (decode (call (enter object time) s .store)) object ≡ some (newCard object time)
   unfolding newCard
-  enter-card = rw (enter-says .volume) (card-entered (newCard object seconds nanoseconds) (decode s) (enter-accepted object seconds nanoseconds s e .new))
+  enter-card = rw (enter-says .volume) (card-entered (newCard object time) (decode s) (enter-accepted object time s e .new))
 
   -- every other object has the card that it had, or none
-  pub enter-other : (other : ℕ) → (object ≡ other → ⊥) → cardOf (decode (call (enter object seconds nanoseconds) s .store)) other ≡ cardOf (decode s) other
+  pub enter-other : (other : ℕ) → (object ≡ other → ⊥) → cardOf (decode (call (enter object time) s .store)) other ≡ cardOf (decode s) other
   unfolding newCard
-  enter-other other d = rw (enter-says .volume) (card-other (newCard object seconds nanoseconds) (decode s) other d)
+  enter-other other d = rw (enter-says .volume) (card-other (newCard object time) (decode s) other d)

@@ -8,14 +8,14 @@ use native.Mathlib.Omega.{arith}
 use lib.Dec.{eqb, leb, ltb}
 use lib.ListN.{length}
 use borrow.Author.Tests.{eqb-true, leb-true, not-false, lt-ltb, le-ltb}
-use Rattle.rules.specs.Lists.{all, ascending}
+use Rattle.rules.specs.Lists.{all, ascending, neighbours}
 use Rattle.rules.specs.Bytes.{Bytes}
 use Rattle.rules.specs.Head.{uuidBytes}
 use Rattle.rules.specs.Map.{mapBytes}
 use Rattle.rules.specs.Store.{Store, StoreBytes, headOf, encodeInto, imageBlocks}
 use Rattle.rules.specs.Refusal.{result}
 use Rattle.rules.specs.Lengths.{buffersFit, headLength, freshLengthWrong}
-use Rattle.rules.specs.Integrity.{ordered, timesRight, noneEmpty, noOverlap, onDevice, inFiles, mappedBlocks, mappedRight, reservedRight, retiredRight}
+use Rattle.rules.specs.Integrity.{ordered, timesRight, noneEmpty, noOverlap, onDevice, inFiles, mappedBlocks, mappedRight, reservedRight, retiredRight, mappedUsed, mappedLive, mappedUnreserved}
 use Rattle.rules.specs.Fresh.{freshVolume, freshOutcome}
 use Rattle.rules.specs.Call.{InRange, call, lentOut, outcome}
 use Rattle.rules.specs.Call.Call.{fresh}
@@ -92,7 +92,7 @@ module _ (uuid : List ℕ) (reserved : ℕ) (s : Store) (f : FreshRight uuid res
 
   -- it is lawful
   pub fresh-lawful : Lawful (freshVolume uuid reserved s)
-  unfolding freshVolume ordered timesRight noneEmpty noOverlap onDevice inFiles mappedRight mappedBlocks reservedRight retiredRight all ascending flatMap
+  unfolding freshVolume ordered timesRight noneEmpty noOverlap onDevice inFiles mappedRight mappedUsed mappedLive mappedUnreserved mappedBlocks reservedRight retiredRight all neighbours flatMap
   fresh-lawful = record {
     order = refl;
     times = refl;

@@ -11,7 +11,7 @@ use lib.Dec.{eqb, ltb}
 use lib.ListN.{length, take, drop, getD, length-append}
 use lib.Arith.{lt-of-le-ne}
 use borrow.Author.Tests.{eqb-true, eqb-false, eq-eqb, ltb-true, ltb-false, lt-ltb}
-use Rattle.rules.specs.Lists.{if_then_else_, maybe, given, range, all, any, filter, count, find, member, ascending, insert, pairBefore}
+use Rattle.rules.specs.Lists.{if_then_else_, maybe, given, range, all, any, filter, count, find, member, ascending, insert, pairBefore, neighbours}
 
 -- ---- choices
 
@@ -432,12 +432,12 @@ map-each f g (each-more {x = x} {xs = xs} e h) = rw (e, map-each f g h) refl
 module _ {A : Type 0} (before : A → A → Bool) where
   -- the first two of an ascending list
   pub ascending-first : (x y : A) (ys : List A) → ascending before (x ∷ y ∷ ys) ≡ true → before x y ≡ true
-  unfolding ascending
+  unfolding neighbours
   ascending-first x y ys h = and-left (before x y) (ascending before (y ∷ ys)) h
 
   -- what stands behind the first ascends
   pub ascending-tail : (x : A) (xs : List A) → ascending before (x ∷ xs) ≡ true → ascending before xs ≡ true
-  unfolding ascending
+  unfolding neighbours
   ascending-tail x [] h = refl
   ascending-tail x (y ∷ ys) h = and-right (before x y) (ascending before (y ∷ ys)) h
 
@@ -450,7 +450,7 @@ module _ {A : Type 0} (before : A → A → Bool) where
 
   -- where each element stands before the next, the list ascends
   pub ascending-of : (xs : List A) (d : A) → ((i : ℕ) → suc i < length xs → before (getD xs i d) (getD xs (suc i) d) ≡ true) → ascending before xs ≡ true
-  unfolding ascending
+  unfolding neighbours
   ascending-of [] d h = refl
   ascending-of (x ∷ []) d h = refl
   ascending-of (x ∷ y ∷ ys) d h =
@@ -502,7 +502,7 @@ module _ {A : Type 0} (before : A → A → Bool) where
 
   -- x put in among elements that each stand before it or behind it: the list still ascends
   pub ascending-insert : (x : A) (ys : List A) → ascending before ys ≡ true → all (λ y. before y x || before x y) ys ≡ true → ascending before (insert before x ys) ≡ true
-  unfolding insert ascending all
+  unfolding insert neighbours all
   ascending-insert x [] h t = refl
   ascending-insert x (y ∷ []) h t =
       if-cases (λ (zs : List A). ascending before zs ≡ true) (before y x) (y ∷ x ∷ []) (x ∷ y ∷ [])

@@ -5,10 +5,12 @@ use mathlib.Core.List.{List, [], _∷_}
 use mathlib.Core.Bool.{true, false}
 use Prim.Native.Nat.{ℕ}
 use native.Mathlib.Omega.{arith}
+use Rattle.rules.specs.Integrity.{storeCases}
 use Rattle.rules.specs.Store.{Store}
 use Rattle.rules.specs.Refusal.{Refusal, Case, Outcome, numberOf, firstOf, result}
 use Rattle.rules.specs.Refusal.Outcome.{refuse}
 use Rattle.rules.proofs.ListLaws.{if-cases, Each, each-none, each-more, each-any}
+use Rattle.rules.proofs.PassLaws.{Passes}
 use Rattle.rules.proofs.Refused.{Numbered, numbered}
 
 -- no case holds
@@ -44,3 +46,8 @@ pub record Through (cases : List Case) (o next : Outcome) : Type 0 where
 pub through : (s : Store) (out : List ℕ) (cases : List Case) (next : Outcome) → result s out (firstOf cases next) .number ≡ 0
     → Through cases (firstOf cases next) next
 through s out cases next = accepted-cases s out (λ o. Through cases o next) cases next (λ n e. record { none = n; goesOn = refl })
+
+-- where refusals 1 and 2 do not come the store passes
+pub store-passes : (s : Store) → NoneHolds (storeCases s) → Passes s
+unfolding storeCases
+store-passes s n = record { lengths = n .0; rules = n .1 .0 }

@@ -18,11 +18,11 @@ use Rattle.rules.specs.Card.{cardBytes, decodeCard, encodeCard, cardSpar
 use Rattle.rules.specs.Extent.{extentBytes, decodeExtent, encodeExtent, extentFixed}
 use Rattle.rules.specs.Group.{groupBytes, decodeGroup, encodeGroup, groupFixed, absentZero}
 use Rattle.rules.specs.Map.{mapBytes, encodeMap}
-use Rattle.rules.specs.Book.{Books, encodeBook, zeroBehind}
-use Rattle.rules.specs.Store.{Store, StoreBytes, Volume, decodeBooks, decodeWith, decode, headOf, encodeInto, places, imageBlocks}
-use Rattle.rules.specs.Lengths.{imageFits, mapFits, bookFits, buffersFit, headLength, headFits, lengthWrong}
-use Rattle.rules.specs.Integrity.{ordered, packed, fixedRight, timesRight, noneEmpty, noOverlap, onDevice, inFiles, slotsRight, booksKeepRules, booksBroken, mappedRight, reservedRight, retiredRight, nonePast, mapsKeepRules, mapsBroken, ruleBroken}
-use Rattle.rules.proofs.ListLaws.{and-left, and-right, and-intro, or-none-left, or-none-right, all-map, all-range-at, all-range-of, Each, each-none, each-more, each-any, each-weaken}
+use Rattle.rules.specs.Book.{Books, encodeBook, zeroBehind, bookPlaces, LentBooks, decodeBooks}
+use Rattle.rules.specs.Store.{Store, StoreBytes, Volume, decodeWith, decode, headOf, encodeInto, imageBlocks, lentBooks}
+use Rattle.rules.specs.Lengths.{imageFits, mapFits, bookFits, buffersFit, headLength, headFits, lengthWrong, countsFit}
+use Rattle.rules.specs.Integrity.{ordered, packed, fixedRight, timesRight, noneEmpty, noOverlap, onDevice, inFiles, slotsRight, booksKeepRules, booksBroken, mappedRight, reservedRight, retiredRight, nonePast, mapsKeepRules, mapsBroken, ruleBroken, bytesKeepRules, recordsKeepRules, mappedBlocks, mappedUsed, mappedLive, mappedUnreserved}
+use Rattle.rules.proofs.ListLaws.{and-left, and-right, and-intro, or-none-left, or-none-right, all-map, all-range-at, all-range-of, all-weaken, Each, each-none, each-more, each-any, each-weaken}
 use Rattle.rules.proofs.BitLaws.{length-bitBytes, bytes-bitBytes, bitSet-past}
 use Rattle.rules.proofs.BookLaws.{pieces-flatMap, length-encodeBook, zero-encodeBook, bytes-encodeBook, length-decodeBook}
 use Rattle.rules.proofs.HeadLaws.{decode-encodeHead, length-encodeHead, bytes-encodeHead}
@@ -96,16 +96,16 @@ pub record Room (s : Store) (v : Volume) : Type 0 where
   pub blocks : v .blocks ≡ imageBlocks s
   pub image : length (v .image) ≡ length (s .image)
   pub reserved : v .reserved ≤ v .blocks
-  pub cards : length (v .books .cards) ≤ places cardBytes (s .cards)
-  pub extents : length (v .books .extents) ≤ places extentBytes (s .extents)
-  pub groups : length (v .books .groups) ≤ places groupBytes (s .groups)
+  pub cards : length (v .books .cards) ≤ bookPlaces cardBytes (s .cards)
+  pub extents : length (v .books .extents) ≤ bookPlaces extentBytes (s .extents)
+  pub groups : length (v .books .groups) ≤ bookPlaces groupBytes (s .groups)
 
 -- ---- the tests of refusal 1
 
 -- a book of whole records, and no more places than there may be
 pub record Sized (w : ℕ) (b : List ℕ) : Type 0 where
   pub whole : length b % w ≡ 0
-  pub most : places w b ≤ mostPlaces
+  pub most : bookPlaces w b ≤ mostPlaces
 
 -- the buffers but for the head have right lengths
 pub record BuffersSized (s : Store) : Type 0 where
@@ -122,8 +122,8 @@ pub record BuffersSized (s : Store) : Type 0 where
 sized : (w : ℕ) (b : List ℕ) → bookFits w b ≡ true → Sized w b
 unfolding bookFits
 sized w b h =
-    let t : Passed (eqb (length b % w) 0 ∷ leb (places w b) mostPlaces ∷ []) = each-passed (eqb (length b % w) 0) (leb (places w b) mostPlaces ∷ []) h in
-    record { whole = eqb-true (length b % w) 0 (t .0); most = leb-true (places w b) mostPlaces (t .1 .0) }
+    let t : Passed (eqb (length b % w) 0 ∷ leb (bookPlaces w b) mostPlaces ∷ []) = each-passed (eqb (length b % w) 0) (leb (bookPlaces w b) mostPlaces ∷ []) h in
+    record { whole = eqb-true (length b % w) 0 (t .0); most = leb-true (bookPlaces w b) mostPlaces (t .1 .0) }
 
 -- the tests of the buffers say so
 pub buffers-sized : (s : Store) → buffersFit s ≡ true → BuffersSized s
@@ -158,69 +158,95 @@ pub record SameLengths (t s : Store) : Type 0 where
 
 -- only the lengths count
 pub buffersFit-same : (t s : Store) → SameLengths t s → buffersFit t ≡ buffersFit s
-unfolding buffersFit imageFits mapFits bookFits imageBlocks places
+unfolding buffersFit imageFits mapFits bookFits imageBlocks bookPlaces
 buffersFit-same t s e = rw (e .image, e .cards, e .extents, e .groups, e .used, e .retired) refl
 
 -- what a head asks for is there
 pub record HeadRoom (s : Store) (h : Head) : Type 0 where
   pub blocks : h .blocks ≡ imageBlocks s
-  pub cards : h .cards ≤ places cardBytes (s .cards)
-  pub extents : h .extents ≤ places extentBytes (s .extents)
-  pub groups : h .groups ≤ places groupBytes (s .groups)
+  pub cards : h .cards ≤ bookPlaces cardBytes (s .cards)
+  pub extents : h .extents ≤ bookPlaces extentBytes (s .extents)
+  pub groups : h .groups ≤ bookPlaces groupBytes (s .groups)
   pub reserved : h .reserved ≤ h .blocks
 
--- the tests of a head's numbers of records
+-- the tests of its numbers of records after the first
 abbrev countTests : Store → Head → List Bool
-countTests s h = leb (h .extents) (places extentBytes (s .extents)) ∷ leb (h .groups) (places groupBytes (s .groups)) ∷ []
+countTests s h = leb (h .extents) (bookPlaces extentBytes (s .extents)) ∷ leb (h .groups) (bookPlaces groupBytes (s .groups)) ∷ []
 
--- all its tests, with those as one
-abbrev headTests : Store → Head → List Bool
-headTests s h = inTurn (leb (h .cards) (places cardBytes (s .cards))) (countTests s h) ∷ leb (h .reserved) (h .blocks) ∷ []
-
--- the test of a head says so
-pub head-room : (s : Store) (h : Head) → headFits s h ≡ true → HeadRoom s h
-unfolding headFits
-head-room s h e =
-    let t = each-passed (eqb (h .blocks) (imageBlocks s)) (headTests s h) e in
-    let r = each-passed (leb (h .cards) (places cardBytes (s .cards))) (countTests s h) (t .1 .0) in
+-- the tests of a head say so
+pub head-room : (s : Store) (h : Head) → headFits s h ≡ true → countsFit s h ≡ true → HeadRoom s h
+unfolding headFits countsFit
+head-room s h e c =
+    let t = each-passed (eqb (h .blocks) (imageBlocks s)) (leb (h .reserved) (h .blocks) ∷ []) e in
+    let r = each-passed (leb (h .cards) (bookPlaces cardBytes (s .cards))) (countTests s h) c in
     record {
       blocks = eqb-true (h .blocks) (imageBlocks s) (t .0);
-      cards = leb-true (h .cards) (places cardBytes (s .cards)) (r .0);
-      extents = leb-true (h .extents) (places extentBytes (s .extents)) (r .1 .0);
-      groups = leb-true (h .groups) (places groupBytes (s .groups)) (r .1 .1 .0);
-      reserved = leb-true (h .reserved) (h .blocks) (t .1 .1 .0);
+      cards = leb-true (h .cards) (bookPlaces cardBytes (s .cards)) (r .0);
+      extents = leb-true (h .extents) (bookPlaces extentBytes (s .extents)) (r .1 .0);
+      groups = leb-true (h .groups) (bookPlaces groupBytes (s .groups)) (r .1 .1 .0);
+      reserved = leb-true (h .reserved) (h .blocks) (t .1 .0);
     }
 
--- and passes where it is so
+-- and pass where it is so
 pub head-fits : (s : Store) (h : Head) → HeadRoom s h → headFits s h ≡ true
 unfolding headFits
 head-fits s h r =
-    let c : inTurn (leb (h .cards) (places cardBytes (s .cards))) (countTests s h) ≡ true =
-    all-passed (leb (h .cards) (places cardBytes (s .cards))) (countTests s h) (
-      le-leb (h .cards) (places cardBytes (s .cards)) (r .cards),
-      (le-leb (h .extents) (places extentBytes (s .extents)) (r .extents), (le-leb (h .groups) (places groupBytes (s .groups)) (r .groups), tt)),
-    ) in
-    all-passed (eqb (h .blocks) (imageBlocks s)) (headTests s h)
-    (eq-eqb (h .blocks) (imageBlocks s) (r .blocks), (c, (le-leb (h .reserved) (h .blocks) (r .reserved), tt)))
+    all-passed (eqb (h .blocks) (imageBlocks s)) (leb (h .reserved) (h .blocks) ∷ [])
+    (eq-eqb (h .blocks) (imageBlocks s) (r .blocks), (le-leb (h .reserved) (h .blocks) (r .reserved), tt))
+
+-- those of the numbers of records too
+pub counts-fit : (s : Store) (h : Head) → HeadRoom s h → countsFit s h ≡ true
+unfolding countsFit
+counts-fit s h r =
+    all-passed (leb (h .cards) (bookPlaces cardBytes (s .cards))) (countTests s h) (
+      le-leb (h .cards) (bookPlaces cardBytes (s .cards)) (r .cards),
+      (le-leb (h .extents) (bookPlaces extentBytes (s .extents)) (r .extents), (le-leb (h .groups) (bookPlaces groupBytes (s .groups)) (r .groups), tt)),
+    )
 
 -- ---- the tests of refusal 2
 
--- the tests of the books after the first
-abbrev bookTests : Head → Books → Store → List Bool
-bookTests h b s =
-    packed h s ∷ fixedRight h s ∷ timesRight b ∷ noneEmpty b ∷ noOverlap b ∷ onDevice (h .blocks) b ∷ inFiles b ∷ slotsRight h s ∷ []
+-- the tests of the books' records after the first
+abbrev recordTests : ℕ → Books → List Bool
+recordTests blocks b = timesRight b ∷ noneEmpty b ∷ noOverlap b ∷ onDevice blocks b ∷ inFiles b ∷ []
 
 -- zeros behind the records of the other books
-abbrev zeroTests : Head → Store → List Bool
-zeroTests h s = zeroBehind extentBytes (h .extents) (s .extents) ∷ zeroBehind groupBytes (h .groups) (s .groups) ∷ []
+abbrev zeroTests : LentBooks → List Bool
+zeroTests l = zeroBehind extentBytes (l .extentCount) (l .extents) ∷ zeroBehind groupBytes (l .groupCount) (l .groups) ∷ []
 
 -- the fixed bytes of the other books
-abbrev fixedTests : Head → Store → List Bool
-fixedTests h s = all extentFixed (pieces extentBytes (h .extents) (s .extents)) ∷ all groupFixed (pieces groupBytes (h .groups) (s .groups)) ∷ []
+abbrev fixedTests : LentBooks → List Bool
+fixedTests l = all extentFixed (pieces extentBytes (l .extentCount) (l .extents)) ∷ all groupFixed (pieces groupBytes (l .groupCount) (l .groups)) ∷ []
 
 -- the tests of the maps after the first, with those of bits past the last block as one
 abbrev mapTests : Volume → Store → List Bool
 mapTests v s = reservedRight v ∷ retiredRight v ∷ (nonePast (v .blocks) (s .used) && nonePast (v .blocks) (s .retired)) ∷ []
+
+-- a block that may be mapped
+abbrev pub mappable : Volume → ℕ → Bool
+mappable v n = v .used n && not (v .retired n) && leb (v .reserved) n
+
+-- the three tests of mapped blocks say that each is one
+pub mapped-all : (v : Volume) → mappedRight v ≡ true → all (mappable v) (mappedBlocks (v .books .extents)) ≡ true
+unfolding mappedRight mappedUsed mappedLive mappedUnreserved
+mapped-all v h =
+    let bs : List ℕ = mappedBlocks (v .books .extents) in
+    let t = each-passed (all (v .used) bs) (all (λ n. not (v .retired n)) bs ∷ all (leb (v .reserved)) bs ∷ []) h in
+    all-and (λ n. v .used n && not (v .retired n)) (leb (v .reserved)) bs (all-and (v .used) (λ n. not (v .retired n)) bs (t .0) (t .1 .0)) (t .1 .1 .0)
+
+-- and pass where each is
+pub all-mapped : (v : Volume) → all (mappable v) (mappedBlocks (v .books .extents)) ≡ true → mappedRight v ≡ true
+unfolding mappedRight mappedUsed mappedLive mappedUnreserved
+all-mapped v h =
+    let bs : List ℕ = mappedBlocks (v .books .extents) in
+    let both : all (λ n. v .used n && not (v .retired n)) bs ≡ true =
+    all-weaken (λ n. v .used n && not (v .retired n)) (mappable v) bs (λ n e. and-left (v .used n && not (v .retired n)) (leb (v .reserved) n) e) h in
+    all-passed (all (v .used) bs) (all (λ n. not (v .retired n)) bs ∷ all (leb (v .reserved)) bs ∷ []) (
+      all-weaken (v .used) (λ n. v .used n && not (v .retired n)) bs (λ n e. and-left (v .used n) (not (v .retired n)) e) both,
+      (
+        all-weaken (λ n. not (v .retired n)) (λ n. v .used n && not (v .retired n)) bs (λ n e. and-right (v .used n) (not (v .retired n)) e) both,
+        (all-weaken (leb (v .reserved)) (mappable v) bs (λ n e. and-right (v .used n && not (v .retired n)) (leb (v .reserved) n) e) h, tt),
+      ),
+    )
 
 -- the test of bits past the last block says that none is set
 pub none-past : (blocks : ℕ) (map : List ℕ) → nonePast blocks map ≡ true → (n : ℕ) → blocks ≤ n → bitSet map n ≡ false
@@ -243,11 +269,12 @@ past-none blocks map h =
 
 module _ (s : Store) (p : Passes s) where
   -- its lengths
-  passed-lengths : Passed (buffersFit s ∷ headLength s ∷ headFits s (decodeHead (s .head)) ∷ [])
+  passed-lengths : Passed (buffersFit s ∷ headLength s ∷ headFits s (decodeHead (s .head)) ∷ countsFit s (decodeHead (s .head)) ∷ [])
   unfolding lengthWrong
   passed-lengths =
-      each-passed (buffersFit s) (headLength s ∷ headFits s (decodeHead (s .head)) ∷ [])
-      (not-false (buffersFit s && headLength s && headFits s (decodeHead (s .head))) (p .lengths))
+      let h : Head = decodeHead (s .head) in
+      each-passed (buffersFit s) (headLength s ∷ headFits s h ∷ countsFit s h ∷ [])
+      (not-false (buffersFit s && headLength s && headFits s h && countsFit s h) (p .lengths))
 
   -- its lengths are right
   pub passes-sized : BuffersSized s
@@ -260,15 +287,29 @@ module _ (s : Store) (p : Passes s) where
 
   -- what its head asks for is there
   pub passes-room : HeadRoom s (decodeHead (s .head))
-  passes-room = head-room s (decodeHead (s .head)) (passed-lengths .1 .1 .0)
+  passes-room = head-room s (decodeHead (s .head)) (passed-lengths .1 .1 .0) (passed-lengths .1 .1 .1 .0)
 
-  -- the rules of its books, each
-  passed-books : Passed (ordered (decode s .books) ∷ bookTests (decodeHead (s .head)) (decode s .books) s)
+  -- the rules of its books: on bytes, and on records
+  passed-books : (bytesKeepRules (lentBooks (decodeHead (s .head)) s) ≡ true) × (recordsKeepRules (decode s .blocks) (decode s .books) ≡ true)
   unfolding ruleBroken booksBroken booksKeepRules decode decodeWith
   passed-books =
       let h : Head = decodeHead (s .head) in
-      each-passed (ordered (decodeBooks h s)) (bookTests h (decodeBooks h s) s)
-      (not-false (booksKeepRules h (decodeBooks h s) s) (or-none-left (booksBroken s) (mapsBroken s) (p .rules)))
+      let k = not-false (booksKeepRules (h .blocks) (lentBooks h s)) (or-none-left (booksBroken s) (mapsBroken s) (p .rules)) in
+      let b : Bool = bytesKeepRules (lentBooks h s) in
+      let r : Bool = recordsKeepRules (h .blocks) (decodeBooks (lentBooks h s)) in
+      (and-left b r k, and-right b r k)
+
+  -- those on bytes, each
+  passed-bytes : Passed (packed (lentBooks (decodeHead (s .head)) s) ∷ fixedRight (lentBooks (decodeHead (s .head)) s) ∷ slotsRight (lentBooks (decodeHead (s .head)) s) ∷ [])
+  unfolding bytesKeepRules
+  passed-bytes =
+      let l : LentBooks = lentBooks (decodeHead (s .head)) s in
+      each-passed (packed l) (fixedRight l ∷ slotsRight l ∷ []) (passed-books .0)
+
+  -- those on records, each
+  passed-records : Passed (ordered (decode s .books) ∷ recordTests (decode s .blocks) (decode s .books))
+  unfolding recordsKeepRules
+  passed-records = each-passed (ordered (decode s .books)) (recordTests (decode s .blocks) (decode s .books)) (passed-books .1)
 
   -- the rules of its maps, each
   passed-maps : Passed (mappedRight (decode s) ∷ mapTests (decode s) s)
@@ -280,16 +321,16 @@ module _ (s : Store) (p : Passes s) where
   -- what it says is lawful
   pub lawful-decode : Lawful (decode s)
   lawful-decode =
-      let b = passed-books in
+      let b = passed-records in
       let m = passed-maps in
       let n = each-passed (nonePast (decode s .blocks) (s .used)) (nonePast (decode s .blocks) (s .retired) ∷ []) (m .1 .1 .1 .0) in
       record {
         order = b .0;
-        times = b .1 .1 .1 .0;
-        filled = b .1 .1 .1 .1 .0;
-        apart = b .1 .1 .1 .1 .1 .0;
-        device = unfold decode decodeWith in b .1 .1 .1 .1 .1 .1 .0;
-        files = b .1 .1 .1 .1 .1 .1 .1 .0;
+        times = b .1 .0;
+        filled = b .1 .1 .0;
+        apart = b .1 .1 .1 .0;
+        device = b .1 .1 .1 .1 .0;
+        files = b .1 .1 .1 .1 .1 .0;
         mapped = m .0;
         reserved = m .1 .0;
         retired = m .1 .1 .0;
@@ -299,14 +340,15 @@ module _ (s : Store) (p : Passes s) where
 
   -- its buffers are whole
   pub passes-whole : StoreBytes s → StoreWhole s
-  unfolding packed fixedRight slotsRight places
+  unfolding packed fixedRight slotsRight bookPlaces
   passes-whole b =
       let h : Head = decodeHead (s .head) in
       let r : HeadRoom s h = passes-room in
       let z : BuffersSized s = passes-sized in
-      let t = passed-books in
-      let o = each-passed (zeroBehind cardBytes (h .cards) (s .cards)) (zeroTests h s) (t .1 .0) in
-      let f = each-passed (all cardSpareZero (pieces cardBytes (h .cards) (s .cards))) (fixedTests h s) (t .1 .1 .0) in
+      let l : LentBooks = lentBooks h s in
+      let t = passed-bytes in
+      let o = each-passed (zeroBehind cardBytes (h .cards) (s .cards)) (zeroTests l) (t .0) in
+      let f = each-passed (all cardSpareZero (pieces cardBytes (h .cards) (s .cards))) (fixedTests l) (t .1 .0) in
       record {
         bytes = b;
         head = passes-head;
@@ -315,7 +357,7 @@ module _ (s : Store) (p : Passes s) where
         groups = record {
           places = omega (arith, r .groups);
           zeros = o .1 .1 .0;
-          records = all-and groupFixed absentZero (pieces groupBytes (h .groups) (s .groups)) (f .1 .1 .0) (t .1 .1 .1 .1 .1 .1 .1 .1 .0);
+          records = all-and groupFixed absentZero (pieces groupBytes (h .groups) (s .groups)) (f .1 .1 .0) (t .1 .1 .0);
         };
         used = rw (r .blocks) (z .used);
         retired = rw (r .blocks) (z .retired);
@@ -347,6 +389,19 @@ module _ (s : Store) (p : Passes s) where
 
 -- ---- the buffers that say a lawful volume
 
+-- they are bytes, whatever the volume is, where its uuid and its image are
+pub bytes-encodeInto : (s : Store) (v : Volume) → Bytes (v .uuid) → Bytes (v .image) → StoreBytes (encodeInto s v)
+unfolding encodeInto encodeMap headOf
+bytes-encodeInto s v u b = record {
+  image = b;
+  head = bytes-encodeHead (headOf v) u;
+  cards = bytes-encodeBook encodeCard (length (s .cards)) (v .books .cards) (each-any bytes-encodeCard (v .books .cards));
+  extents = bytes-encodeBook encodeExtent (length (s .extents)) (v .books .extents) (each-any bytes-encodeExtent (v .books .extents));
+  groups = bytes-encodeBook encodeGroup (length (s .groups)) (v .books .groups) (each-any bytes-encodeGroup (v .books .groups));
+  used = bytes-bitBytes (mapBytes (v .blocks)) (v .used) 0;
+  retired = bytes-bitBytes (mapBytes (v .blocks)) (v .retired) 0;
+}
+
 -- a test of records' bytes passes at those of a written book where it passes at each record's
 all-pieces : {A : Type 0} (encode : A → List ℕ) (w size : ℕ) (f : List ℕ → Bool) {rs : List A} → Each (λ r. length (encode r) ≡ w) rs
     → Each (λ r. f (encode r) ≡ true) rs → all f (pieces w (length rs) (encodeBook encode size rs)) ≡ true
@@ -368,7 +423,7 @@ module _ (s : Store) (v : Volume) (r : Room s v) (f : VolumeFits v) where
 
   -- the lengths stay
   pub same-lengths : SameLengths (encodeInto s v) s
-  unfolding encodeInto encodeMap places
+  unfolding encodeInto encodeMap bookPlaces
   same-lengths =
       let z : BuffersSized s = buffers-sized s (r .buffers) in
       record {
@@ -387,7 +442,7 @@ module _ (s : Store) (v : Volume) (r : Room s v) (f : VolumeFits v) where
 
   -- what it asks for is there
   head-there : HeadRoom (encodeInto s v) (headOf v)
-  unfolding headOf places imageBlocks
+  unfolding headOf bookPlaces imageBlocks
   head-there =
       let e : SameLengths (encodeInto s v) s = same-lengths in
       record {
@@ -406,28 +461,15 @@ module _ (s : Store) (v : Volume) (r : Room s v) (f : VolumeFits v) where
       let b : buffersFit t ≡ true = buffersFit-same t s same-lengths ∙ r .buffers in
       let l : headLength t ≡ true = unfold headLength encodeInto in eq-eqb (length (encodeHead (headOf v))) headBytes (length-encodeHead (headOf v) (f .head .uuidLength)) in
       let h : headFits t (decodeHead (t .head)) ≡ true = rw head-is (head-fits t (headOf v) head-there) in
-      ap not (all-passed (buffersFit t) (headLength t ∷ headFits t (decodeHead (t .head)) ∷ []) (b, (l, (h, tt))))
-
-  -- its buffers are bytes
-  pub bytes-encodeInto : Bytes (v .image) → StoreBytes (encodeInto s v)
-  unfolding encodeInto encodeMap
-  bytes-encodeInto b = record {
-    image = b;
-    head = bytes-encodeHead (headOf v) (f .head .uuid);
-    cards = bytes-encodeBook encodeCard (length (s .cards)) (v .books .cards) (each-any bytes-encodeCard (v .books .cards));
-    extents = bytes-encodeBook encodeExtent (length (s .extents)) (v .books .extents) (each-any bytes-encodeExtent (v .books .extents));
-    groups = bytes-encodeBook encodeGroup (length (s .groups)) (v .books .groups) (each-any bytes-encodeGroup (v .books .groups));
-    used = bytes-bitBytes (mapBytes (v .blocks)) (v .used) 0;
-    retired = bytes-bitBytes (mapBytes (v .blocks)) (v .retired) 0;
-  }
+      let c : countsFit t (decodeHead (t .head)) ≡ true = rw head-is (counts-fit t (headOf v) head-there) in
+      ap not (all-passed (buffersFit t) (headLength t ∷ headFits t (decodeHead (t .head)) ∷ countsFit t (decodeHead (t .head)) ∷ []) (b, (l, (h, (c, tt)))))
 
   -- zeros behind the last record of each book
-  packed-encodeInto : packed (headOf v) (encodeInto s v) ≡ true
+  packed-encodeInto : packed (lentBooks (headOf v) (encodeInto s v)) ≡ true
   unfolding packed headOf encodeInto
   packed-encodeInto =
-      let h : Head = headOf v in
-      let t : Store = encodeInto s v in
-      all-passed (zeroBehind cardBytes (h .cards) (t .cards)) (zeroTests h t) (
+      let l : LentBooks = lentBooks (headOf v) (encodeInto s v) in
+      all-passed (zeroBehind cardBytes (l .cardCount) (l .cards)) (zeroTests l) (
         zero-encodeBook encodeCard cardBytes (length (s .cards)) (v .books .cards) wide-cards,
         (
           zero-encodeBook encodeExtent extentBytes (length (s .extents)) (v .books .extents) wide-extents,
@@ -436,12 +478,11 @@ module _ (s : Store) (v : Volume) (r : Room s v) (f : VolumeFits v) where
       )
 
   -- fixed bytes and spare bits
-  fixed-encodeInto : fixedRight (headOf v) (encodeInto s v) ≡ true
+  fixed-encodeInto : fixedRight (lentBooks (headOf v) (encodeInto s v)) ≡ true
   unfolding fixedRight headOf encodeInto
   fixed-encodeInto =
-      let h : Head = headOf v in
-      let t : Store = encodeInto s v in
-      all-passed (all cardSpareZero (pieces cardBytes (h .cards) (t .cards))) (fixedTests h t) (
+      let l : LentBooks = lentBooks (headOf v) (encodeInto s v) in
+      all-passed (all cardSpareZero (pieces cardBytes (l .cardCount) (l .cards))) (fixedTests l) (
         all-pieces encodeCard cardBytes (length (s .cards)) cardSpareZero wide-cards (each-weaken spare-encodeCard (f .cards)),
         (
           all-pieces encodeExtent extentBytes (length (s .extents)) extentFixed wide-extents (each-any fixed-encodeExtent (v .books .extents)),
@@ -450,23 +491,33 @@ module _ (s : Store) (v : Volume) (r : Room s v) (f : VolumeFits v) where
       )
 
   -- no slot that is not present has a value
-  slots-encodeInto : slotsRight (headOf v) (encodeInto s v) ≡ true
+  slots-encodeInto : slotsRight (lentBooks (headOf v) (encodeInto s v)) ≡ true
   unfolding slotsRight headOf encodeInto
   slots-encodeInto =
       all-pieces encodeGroup groupBytes (length (s .groups)) absentZero wide-groups (each-weaken absent-encodeGroup (f .groups))
 
-  -- the records of a lawful volume keep the rules of the books
+  -- the bytes keep the rules on them
+  bytes-keep : bytesKeepRules (lentBooks (headOf v) (encodeInto s v)) ≡ true
+  unfolding bytesKeepRules
+  bytes-keep =
+      let l : LentBooks = lentBooks (headOf v) (encodeInto s v) in
+      all-passed (packed l) (fixedRight l ∷ slotsRight l ∷ []) (packed-encodeInto, (fixed-encodeInto, (slots-encodeInto, tt)))
+
+  -- the records of a lawful volume keep the rules on them
+  records-keep : Lawful v → recordsKeepRules (headOf v .blocks) (v .books) ≡ true
+  unfolding recordsKeepRules headOf
+  records-keep l =
+      all-passed (ordered (v .books)) (recordTests (v .blocks) (v .books)) (l .order, (l .times, (l .filled, (l .apart, (l .device, (l .files, tt))))))
+
+  -- so the books keep the rules
   books-encodeInto : Lawful v → booksBroken (encodeInto s v) ≡ false
   unfolding booksBroken booksKeepRules
   books-encodeInto l =
       let t : Store = encodeInto s v in
-      let b : decodeBooks (decodeHead (t .head)) t ≡ v .books = unfold decode decodeWith in ap (λ (w : Volume). w .books) (decode-encodeInto s v f) in
-      let d : onDevice (headOf v .blocks) (v .books) ≡ true = unfold headOf in l .device in
-      let k : booksKeepRules (headOf v) (v .books) t ≡ true =
-      all-passed (ordered (v .books)) (bookTests (headOf v) (v .books) t)
-      (l .order, (packed-encodeInto, (fixed-encodeInto, (l .times, (l .filled, (l .apart, (d, (l .files, (slots-encodeInto, tt))))))))) in
-      let m : booksKeepRules (decodeHead (t .head)) (decodeBooks (decodeHead (t .head)) t) t ≡ true = rw (b, head-is) k in
-      ap not m
+      let b : decodeBooks (lentBooks (decodeHead (t .head)) t) ≡ v .books = unfold decode decodeWith in ap (λ (w : Volume). w .books) (decode-encodeInto s v f) in
+      let k : booksKeepRules (decodeHead (t .head) .blocks) (lentBooks (decodeHead (t .head)) t) ≡ true =
+      rw (b, head-is) (and-intro (bytesKeepRules (lentBooks (headOf v) t)) (recordsKeepRules (headOf v .blocks) (v .books)) bytes-keep (records-keep l)) in
+      ap not k
 
   -- no bit of its maps is set past the last block
   past-encodeInto : Lawful v → (nonePast (v .blocks) (encodeInto s v .used) && nonePast (v .blocks) (encodeInto s v .retired)) ≡ true
@@ -505,7 +556,7 @@ pub record Says (s : Store) (v : Volume) : Type 0 where
 -- such is the store that a call leaves
 pub says-encodeInto : (s : Store) (v : Volume) → Room s v → VolumeFits v → Lawful v → Bytes (v .image) → Says (encodeInto s v) v
 says-encodeInto s v r f l b = record {
-  bytes = bytes-encodeInto s v r f b;
+  bytes = bytes-encodeInto s v (unfold headOf in f .head .uuid) b;
   passes = passes-encodeInto s v r f l;
   volume = decode-encodeInto s v f;
 }

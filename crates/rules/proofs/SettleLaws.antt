@@ -9,29 +9,32 @@ use Prim.Native.Nat.{ℕ}
 use lib.Dec.{eqb, leb}
 use lib.ListN.{length}
 use borrow.Author.Tests.{eq-eqb}
+use Rattle.rules.specs.Time.{Time}
+use Rattle.rules.specs.Arguments.{withCard}
 use Rattle.rules.specs.Lists.{range}
 use Rattle.rules.specs.Bytes.{Bytes}
 use Rattle.rules.specs.Card.{Card}
 use Rattle.rules.specs.Store.{Store, StoreBytes, Volume, decode, decodeWith, headOf, encodeInto, cardOf}
 use Rattle.rules.specs.Refusal.{Case, Outcome, firstOf, result}
-use Rattle.rules.specs.Integrity.{mappedBlocks, mappedRight, reservedRight, retiredRight}
-use Rattle.rules.specs.Write.{storeCases, withCard, writeFile, writeOutcome, growFile, growOutcome}
+use Rattle.rules.specs.Integrity.{mappedBlocks, reservedRight, retiredRight, storeCases}
+use Rattle.rules.specs.Write.{writeFile, writeOutcome, growFile, growOutcome}
 use Rattle.rules.specs.Read.{Checked, readLength, handOut, readUnits, readFile, readOutcome}
 use Rattle.rules.specs.Read.Checked.{failed, bytes}
 use Rattle.rules.specs.Settle.{settled, settleOutcome, fillOutcome}
-use Rattle.rules.specs.Call.{call, lentOut, outcome}
-use Rattle.rules.specs.Call.Call.{settle, fill, read, write, grow}
+use Rattle.rules.specs.Call.{Look, call, lookOut, lentOut, lookOutcome, outcome}
+use Rattle.rules.specs.Call.Look.{read, fill}
+use Rattle.rules.specs.Call.Call.{grow, settle, look}
 use Rattle.rules.proofs.ListLaws.{if-cases, if-true, maybe-cases, all-weaken, all-range-of, each-any}
 use Rattle.rules.proofs.StoreLaws.{VolumeFits}
-use Rattle.rules.proofs.PassLaws.{Passes, Lawful, Room, lawful-decode, room-decode, decode-fits, Says, says-encodeInto}
-use Rattle.rules.proofs.OutcomeLaws.{NoneHolds, through, firstOf-cases}
+use Rattle.rules.proofs.PassLaws.{Passes, Lawful, Room, lawful-decode, room-decode, decode-fits, Says, says-encodeInto, mappable, mapped-all, all-mapped}
+use Rattle.rules.proofs.OutcomeLaws.{through, firstOf-cases, store-passes}
 
 -- ---- the retired blocks let go
 
 module _ (v : Volume) where
   -- the volume stays lawful
   pub settled-lawful : Lawful v → Lawful (settled v)
-  unfolding settled mappedRight reservedRight retiredRight
+  unfolding settled reservedRight retiredRight
   settled-lawful l = record {
     order = l .order;
     times = l .times;
@@ -39,8 +42,8 @@ module _ (v : Volume) where
     apart = l .apart;
     device = l .device;
     files = l .files;
-    mapped = all-weaken (λ n. (v .used n && not (v .retired n)) && true && leb (v .reserved) n) (λ n. v .used n && not (v .retired n) && leb (v .reserved) n)
-        (mappedBlocks (v .books .extents)) (λ n h. ap (λ (b : Bool). b && leb (v .reserved) n) (and-true (v .used n && not (v .retired n))) ∙ h) (l .mapped);
+    mapped = all-mapped (settled v) (all-weaken (mappable (settled v)) (mappable v)
+        (mappedBlocks (v .books .extents)) (λ n h. ap (λ (b : Bool). b && leb (v .reserved) n) (and-true (v .used n && not (v .retired n))) ∙ h) (mapped-all v (l .mapped)));
     reserved = all-weaken (λ n. (v .used n && not (v .retired n)) && true) (λ n. v .used n && not (v .retired n))
         (range 0 (v .reserved)) (λ n h. and-true (v .used n && not (v .retired n)) ∙ h) (l .reserved);
     retired = all-range-of (λ n. true) 0 (v .blocks) (λ i m. refl);
@@ -75,11 +78,6 @@ module _ (v : Volume) where
 
 -- ---- the call
 
--- where refusals 1 and 2 do not come the store passes
-pub store-passes : (s : Store) → NoneHolds (storeCases s) → Passes s
-unfolding storeCases
-store-passes s n = record { lengths = n .0; rules = n .1 .0 }
-
 -- settle's tests pass, and it leaves the buffers that say the settled volume
 pub record SettleAccepted (s : Store) : Type 0 where
   pub passes : Passes s
@@ -104,7 +102,7 @@ settle-says s b e =
 -- ---- calls that leave the store
 
 -- what becomes of the call leaves the store itself
-abbrev Stays : Store → List ℕ → Outcome → Type 0
+abbrev pub Stays : Store → List ℕ → Outcome → Type 0
 Stays s out o = result s out o .store ≡ s
 
 -- whatever tests come first
@@ -118,34 +116,29 @@ card-stays : (s : Store) (out : List ℕ) (object : ℕ) (next : Card → Outcom
 unfolding result withCard
 card-stays s out object next h = maybe-cases (Stays s out) _ next (cardOf (decode s) object) (λ e. refl) h
 
--- fill
-pub fill-stays : (s : Store) → call fill s .store ≡ s
-unfolding call outcome lentOut fillOutcome result
-fill-stays s = first-stays s [] (storeCases s) _ refl
-
 -- bytes handed out
 hand-stays : (at n : ℕ) (s : Store) (out : List ℕ) (c : Checked) → Stays s out (handOut at n s out c)
 unfolding handOut result
 hand-stays at n s out (failed r) = refl
 hand-stays at n s out (bytes xs) = refl
 
--- read
-pub read-stays : (object offset : ℕ) (out : List ℕ) (s : Store) → call (read object offset out) s .store ≡ s
-unfolding call outcome lentOut readOutcome readFile readUnits result
-read-stays object offset out s =
+-- fill and read
+pub look-stays : (l : Look) (s : Store) → call (look l) s .store ≡ s
+unfolding call outcome lentOut lookOutcome lookOut readOutcome readFile readUnits fillOutcome result
+look-stays (read object offset out) s =
     first-stays s out (storeCases s) _ (card-stays s out object _ (λ c e.
     if-cases (Stays s out) (eqb (readLength (c .size) offset (length out)) 0) _ _ (λ q. refl) (λ q. hand-stays _ _ s out _)))
+look-stays fill s = first-stays s [] (storeCases s) _ refl
 
--- a write of no bytes
-pub write-stays : (object offset : ℕ) (xs : List ℕ) (seconds nanoseconds : ℕ) (s : Store) → length xs ≡ 0
-    → call (write object offset xs seconds nanoseconds) s .store ≡ s
-unfolding call outcome lentOut writeOutcome writeFile result
-write-stays object offset xs seconds nanoseconds s h =
+-- a write of no bytes, whatever the limit of runs
+pub write-stays : (limit object offset : ℕ) (xs : List ℕ) (time : Time) (s : Store) → length xs ≡ 0 → Stays s [] (writeOutcome limit object offset xs time s)
+unfolding writeOutcome writeFile result
+write-stays limit object offset xs time s h =
     first-stays s [] (storeCases s) _ (card-stays s [] object _ (λ c e. rw (if-true (eqb (length xs) 0) _ _ (eq-eqb (length xs) 0 h)) refl))
 
 -- a grow to the size that there is
-pub grow-stays : (object size seconds nanoseconds : ℕ) (s : Store) → ((c : Card) → cardOf (decode s) object ≡ some c → size ≡ c .size)
-    → call (grow object size seconds nanoseconds) s .store ≡ s
+pub grow-stays : (object size : ℕ) (time : Time) (s : Store) → ((c : Card) → cardOf (decode s) object ≡ some c → size ≡ c .size)
+    → call (grow object size time) s .store ≡ s
 unfolding call outcome lentOut growOutcome growFile result
-grow-stays object size seconds nanoseconds s h =
+grow-stays object size time s h =
     first-stays s [] (storeCases s) _ (card-stays s [] object _ (λ c e. first-stays s [] _ _ (rw (if-true (eqb size (c .size)) _ _ (eq-eqb size (c .size) (h c e))) refl)))

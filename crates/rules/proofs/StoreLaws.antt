@@ -14,8 +14,8 @@ use Rattle.rules.specs.Card.{cardBytes, decodeCard, encodeCard, cardSpar
 use Rattle.rules.specs.Extent.{extentBytes, decodeExtent, encodeExtent, extentFixed}
 use Rattle.rules.specs.Group.{groupBytes, decodeGroup, encodeGroup, groupFixed, absentZero}
 use Rattle.rules.specs.Map.{mapBytes, encodeMap}
-use Rattle.rules.specs.Book.{decodeBook, encodeBook}
-use Rattle.rules.specs.Store.{Store, StoreBytes, Volume, decodeBooks, decodeWith, decode, headOf, encodeInto}
+use Rattle.rules.specs.Book.{decodeBook, encodeBook, decodeBooks}
+use Rattle.rules.specs.Store.{Store, StoreBytes, Volume, decodeWith, decode, headOf, encodeInto, lentBooks}
 use Rattle.rules.proofs.ListLaws.{Each, each-weaken, and-left, and-right}
 use Rattle.rules.proofs.BitLaws.{length-bitBytes, bitSet-bitBytes, bitSet-past, bitBytes-bitSet}
 use Rattle.rules.proofs.BookLaws.{Whole, encode-whole, decode-encodeBook, length-decodeBook, each-decodeBook}
@@ -54,7 +54,7 @@ pub record VolumeFits (v : Volume) : Type 0 where
   pub retired : (n : ℕ) → 8 * mapBytes (v .blocks) ≤ n → v .retired n ≡ false
 
 -- its books that were written are read
-books-encodeInto : (s : Store) (v : Volume) → VolumeFits v → decodeBooks (headOf v) (encodeInto s v) ≡ v .books
+books-encodeInto : (s : Store) (v : Volume) → VolumeFits v → decodeBooks (lentBooks (headOf v) (encodeInto s v)) ≡ v .books
 unfolding decodeBooks headOf encodeInto
 books-encodeInto s v f =
     let c : decodeBook decodeCard cardBytes (length (v .books .cards)) (encodeBook encodeCard (length (s .cards)) (v .books .cards)) ≡ v .books .cards =
@@ -69,7 +69,7 @@ books-encodeInto s v f =
 with-head : (s : Store) (v : Volume) → VolumeFits v → decodeWith (headOf v) (encodeInto s v) ≡ v
 unfolding decodeWith headOf
 with-head s v f =
-    let b : decodeBooks (headOf v) (encodeInto s v) ≡ v .books = books-encodeInto s v f in
+    let b : decodeBooks (lentBooks (headOf v) (encodeInto s v)) ≡ v .books = books-encodeInto s v f in
     let u : bitSet (encodeInto s v .used) ≡ v .used = unfold encodeInto in bitSet-encodeMap (v .blocks) (v .used) (f .used) in
     let r : bitSet (encodeInto s v .retired) ≡ v .retired = unfold encodeInto in bitSet-encodeMap (v .blocks) (v .retired) (f .retired) in
     let m : encodeInto s v .image ≡ v .image = unfold encodeInto in refl in

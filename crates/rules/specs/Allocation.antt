@@ -25,21 +25,19 @@ groupStart group = group * groupBlocks
 unfoldable pub groupEnd : ℕ → ℕ → ℕ
 groupEnd blocks group = min (groupStart group + groupBlocks) blocks
 
--- "the highest block taken by this call in that group"
-unfoldable pub highest : ℕ → List ℕ → ℕ → Option ℕ
-highest blocks taken group =
-    getLast? (filter (λ b. member b taken) (range (groupStart group) (groupEnd blocks group - groupStart group)))
+-- a group, and the blocks taken by this call
+module _ (blocks : ℕ) (taken : List ℕ) (group : ℕ) where
+  -- "the highest block taken by this call in that group"
+  unfoldable pub highest : Option ℕ
+  highest = getLast? (filter (λ b. member b taken) (range (groupStart group) (groupEnd blocks group - groupStart group)))
 
--- the block after it; "its start if none, or if that was its last"
-unfoldable pub cursor : ℕ → List ℕ → ℕ → ℕ
-cursor blocks taken group =
-    maybe (groupStart group) (λ b. if eqb (suc b) (groupEnd blocks group) then groupStart group else suc b) (highest blocks taken group)
+  -- the block after it; "its start if none, or if that was its last"
+  unfoldable pub cursor : ℕ
+  cursor = maybe (groupStart group) (λ b. if eqb (suc b) (groupEnd blocks group) then groupStart group else suc b) highest
 
--- "in each, from after the highest block taken by this call in that group [..], then around"
-unfoldable pub searched : ℕ → List ℕ → ℕ → List ℕ
-searched blocks taken group =
-    range (cursor blocks taken group) (groupEnd blocks group - cursor blocks taken group)
-    ++ range (groupStart group) (cursor blocks taken group - groupStart group)
+  -- "in each, from after the highest block taken by this call in that group [..], then around"
+  unfoldable pub searched : List ℕ
+  searched = range cursor (groupEnd blocks group - cursor) ++ range (groupStart group) (cursor - groupStart group)
 
 -- "A free block is one whose used bit is clear." Free, and untaken by this call
 unfoldable pub available : (ℕ → Bool) → List ℕ → ℕ → Bool

@@ -57,6 +57,16 @@ unfoldable pub planUnits : Plan → List Rewritten
 planUnits (refused r) = []
 planUnits (planned rs p) = rs
 
+-- the hint that they leave; none where one is refused
+unfoldable pub planHint : Plan → Option ℕ
+planHint (refused r) = none
+planHint (planned rs p) = some (p .hint)
+
+-- the card's count that they leave
+unfoldable pub planAllocated : Plan → Option ℕ
+planAllocated (refused r) = none
+planAllocated (planned rs p) = some (p .allocated)
+
 -- all units of a read: the number of the first refusal, or 0
 unfoldable pub checkedNumber : Checked → ℕ
 checkedNumber (failed r) = numberOf r

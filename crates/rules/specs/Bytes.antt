@@ -72,12 +72,12 @@ pack (w ∷ ws) (v ∷ vs) = v * 2 ^ bitsOf ws + pack ws vs
 unfoldable pub bitSet : List ℕ → ℕ → Bool
 bitSet s n = eqb (getD s (n / 8) 0 / 2 ^ (n % 8) % 2) 1
 
--- the byte whose bit k is set where f k holds: bits k to k + n - 1, from the low end
+-- the number of n bits whose bit i, from the low end, is set where f (k + i) holds
 unfoldable pub byteOf : ℕ → (ℕ → Bool) → ℕ → ℕ
 byteOf zero f k = 0
 byteOf (suc n) f k = (if f k then 1 else 0) + 2 * byteOf n f (suc k)
 
--- n bytes whose bit k is set where f k holds
+-- n bytes: bit i of them, as `bitSet` counts, is set where f (k + i) holds
 unfoldable pub bitBytes : ℕ → (ℕ → Bool) → ℕ → List ℕ
 bitBytes zero f k = []
 bitBytes (suc n) f k = byteOf 8 f k ∷ bitBytes n f (8 + k)

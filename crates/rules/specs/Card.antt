@@ -6,14 +6,14 @@ use Prim.Native.Nat.{ℕ}
 use lib.Dec.{eqb, ltb}
 use lib.ListN.{getD}
 use Rattle.rules.specs.Bytes.{be, beDigits, pack, unpack}
+use Rattle.rules.specs.Time.{Time}
 
 -- what a card (document 01's word for a file's record) says: the file's object, its size, the blocks that it has, and the time of its last change
 pub record Card : Type 0 where
   pub object : ℕ
   pub size : ℕ
   pub allocated : ℕ
-  pub seconds : ℕ
-  pub nanoseconds : ℕ
+  pub changed : Time
 
 -- "32 bytes"
 abbrev pub cardBytes : ℕ
@@ -33,14 +33,14 @@ decodeCard bytes = record {
   object = getD (cardFields bytes) 0 0;
   size = getD (cardFields bytes) 1 0;
   allocated = getD (cardFields bytes) 2 0;
-  seconds = getD (cardFields bytes) 3 0;
-  nanoseconds = getD (cardFields bytes) 4 0;
+  changed = record { seconds = getD (cardFields bytes) 3 0; nanoseconds = getD (cardFields bytes) 4 0 };
 }
 
 -- the 32 bytes that say it, the spare bit zero
 unfoldable pub encodeCard : Card → List ℕ
 encodeCard c =
-    beDigits cardBytes (pack cardWidths (c .object ∷ c .size ∷ c .allocated ∷ c .seconds ∷ c .nanoseconds ∷ 0 ∷ []))
+    beDigits cardBytes
+    (pack cardWidths (c .object ∷ c .size ∷ c .allocated ∷ c .changed .seconds ∷ c .changed .nanoseconds ∷ 0 ∷ []))
 
 -- the spare bit is zero
 unfoldable pub cardSpareZero : List ℕ → Bool

@@ -13,7 +13,8 @@ use Rattle.rules.specs.Extent.{Extent}
 use Rattle.rules.specs.Store.{Store, StoreBytes, Volume, decode, imageBlocks}
 use Rattle.rules.specs.Refusal.{Result}
 use Rattle.rules.specs.Call.{Call, InRange, call}
-use Rattle.rules.specs.Call.Call.{fresh, enter, write, grow, read, settle, fill}
+use Rattle.rules.specs.Call.Look.{read}
+use Rattle.rules.specs.Call.Call.{fresh, enter, write, grow, settle, look}
 use Rattle.rules.specs.Plain.{Fed, File, plain, fileBytes, plainRead}
 
 -- ---- a list of calls
@@ -35,12 +36,11 @@ fed (c ∷ cs) s = record { call = c; refused = wasRefused (call c s) } ∷ fed 
 -- the number that a fresh gives
 unfoldable pub givenReserved : Call → ℕ → ℕ
 givenReserved (fresh uuid reserved) n = reserved
-givenReserved (enter object seconds nanoseconds) n = n
-givenReserved (write object offset bytes seconds nanoseconds) n = n
-givenReserved (grow object size seconds nanoseconds) n = n
-givenReserved (read object offset out) n = n
+givenReserved (enter object time) n = n
+givenReserved (write object offset bytes time) n = n
+givenReserved (grow object size time) n = n
 givenReserved settle n = n
-givenReserved fill n = n
+givenReserved (look l) n = n
 
 -- "the number given to the last accepted fresh", n before these calls
 unfoldable pub lastReserved : List Fed → ℕ → ℕ
@@ -93,16 +93,17 @@ pub record PlainAnswer (files : List File) (object offset : ℕ) (out : List ℕ
 abbrev pub neverNumbers : List ℕ
 neverNumbers = 2 ∷ 9 ∷ 10 ∷ 11 ∷ 12 ∷ 14 ∷ []
 
--- a store that calls left, the plain arrays after the same calls, and the number given to the last accepted fresh
+-- a store that calls left, the plain arrays after the same calls, and the number given to the last accepted fresh. The four clauses are the demand's
+-- own; plain arrays, places, reserved and retired are as document 01 defines them
 pub record Sound (files : List File) (reserved : ℕ) (s : Store) : Type 0 where
-  -- every read that is accepted gives the plain array's bytes
-  pub reads : (object offset : ℕ) (out : List ℕ) → InRange (read object offset out) → call (read object offset out) s .number ≡ 0
-      → PlainAnswer files object offset out (call (read object offset out) s)
-  -- every block is in exactly one place
+  -- "reads give the plain array's bytes": every read that is accepted, from any place into any buffer
+  pub reads : (object offset : ℕ) (out : List ℕ) → InRange (look (read object offset out)) → call (look (read object offset out)) s .number ≡ 0
+      → PlainAnswer files object offset out (call (look (read object offset out)) s)
+  -- "every block is in exactly one place": reserved, free, retired, or at one place of one file
   pub onePlace : (b : ℕ) → b < imageBlocks s → holders reserved (decode s) b ≡ 1
-  -- card counts are right
+  -- "card counts are right": each card's allocated blocks are the places of its file
   pub counts : (c : Card) → List·Memᴰ c (decode s .books .cards) → c .allocated ≡ filePlaces (decode s) (c .object)
-  -- and these refusals never come, whatever is called next
+  -- "refusals 2, 9 to 12 and 14 never come": not to any call that could be the next
   pub never : (c : Call) → InRange c → member (call c s .number) neverNumbers ≡ false
 
 -- demand 3: for every store of bytes, every fresh accepted on it, and every list of calls

@@ -8,10 +8,11 @@ use lib.Dec.{eqb, ltb}
 use Rattle.rules.specs.Lists.{if_then_else_, any, filter, insert, member}
 use Rattle.rules.specs.Sizes.{blockBytes, unitBlocks, groupUnits}
 use Rattle.rules.specs.Bytes.{part, patch, padded}
+use Rattle.rules.specs.Time.{Time}
 use Rattle.rules.specs.Card.{Card}
 use Rattle.rules.specs.Extent.{Extent, extentBefore, extentEnd, joins, joined}
 use Rattle.rules.specs.Group.{Group, groupBefore, emptyGroup, setChecksumSlot}
-use Rattle.rules.specs.Store.{Volume}
+use Rattle.rules.specs.Store.{Volume, withBooks, withMaps, withImage}
 use Rattle.rules.specs.Units.{Change}
 use Rattle.rules.specs.Rewrite.{Rewritten, Progress}
 
@@ -102,12 +103,14 @@ finishedGroups object (r ∷ rs) gs = finishedGroups object rs (setSlot object (
 
 -- ---- the cards
 
--- the file's new size, its count and its time on its card
-unfoldable pub finishedCards : Change → ℕ → ℕ → ℕ → List Card → List Card
-finishedCards c allocated seconds nanoseconds cs =
-    map (λ d. if eqb (d .object) (c .object)
-    then record { object = d .object; size = c .newSize; allocated = allocated; seconds = seconds; nanoseconds = nanoseconds }
-    else d) cs
+-- a card after a change to its file: the new size, the count and the time; all else on it stays
+unfoldable pub changedCard : ℕ → ℕ → Time → Card → Card
+changedCard size allocated time d = record { object = d .object; size = size; allocated = allocated; changed = time }
+
+-- the finished cards
+unfoldable pub finishedCards : Change → ℕ → Time → List Card → List Card
+finishedCards c allocated time cs =
+    map (λ d. if eqb (d .object) (c .object) then changedCard (c .newSize) allocated time d else d) cs
 
 -- ---- the maps and the image
 
@@ -137,18 +140,11 @@ finishedImage [] image = image
 finishedImage (r ∷ rs) image = finishedImage rs (writeNew (r .bytes) 0 (r .kept) (r .blocks) image)
 
 -- the volume that a change leaves: "Superseded blocks become retired and stay used until settle"
-unfoldable pub finished : Change → ℕ → ℕ → List Rewritten → Progress → Volume → Volume
-finished c seconds nanoseconds rs p v = record {
-  uuid = v .uuid;
-  blocks = v .blocks;
-  reserved = v .reserved;
-  hint = p .hint;
-  books = record {
-    cards = finishedCards c (p .allocated) seconds nanoseconds (v .books .cards);
-    extents = finishedExtents (c .object) rs (v .books .extents);
-    groups = finishedGroups (c .object) rs (v .books .groups);
-  };
-  used = λ n. v .used n || member n (newBlocks rs);
-  retired = λ n. v .retired n || member n (supersededBlocks rs);
-  image = finishedImage rs (v .image);
-}
+unfoldable pub finished : Change → Time → List Rewritten → Progress → Volume → Volume
+finished c time rs p v =
+    withBooks (record {
+      cards = finishedCards c (p .allocated) time (v .books .cards);
+      extents = finishedExtents (c .object) rs (v .books .extents);
+      groups = finishedGroups (c .object) rs (v .books .groups);
+    }) (withMaps (λ n. v .used n || member n (newBlocks rs)) (λ n. v .retired n || member n (supersededBlocks rs))
+    (withImage (finishedImage rs (v .image)) (p .hint) v))

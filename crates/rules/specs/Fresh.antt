@@ -5,7 +5,7 @@ use mathlib.Core.Bool.{false}
 use Prim.Native.Nat.{ℕ}
 use lib.Dec.{ltb}
 use Rattle.rules.specs.Store.{Store, Volume, encodeInto, imageBlocks}
-use Rattle.rules.specs.Refusal.{Result, Outcome, _when_, firstOf, result}
+use Rattle.rules.specs.Refusal.{Outcome, _when_, firstOf}
 use Rattle.rules.specs.Refusal.Refusal.{wrong-length}
 use Rattle.rules.specs.Refusal.Outcome.{accept}
 use Rattle.rules.specs.Lengths.{freshLengthWrong}
@@ -28,7 +28,3 @@ freshVolume uuid reserved s = record {
 unfoldable pub freshOutcome : List ℕ → ℕ → Store → Outcome
 freshOutcome uuid reserved s =
     firstOf ((wrong-length when freshLengthWrong uuid reserved s) ∷ []) (accept 0 (encodeInto s (freshVolume uuid reserved s)) [])
-
--- the call
-unfoldable pub fresh : List ℕ → ℕ → Store → Result
-fresh uuid reserved s = result s [] (freshOutcome uuid reserved s)

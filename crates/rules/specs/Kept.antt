@@ -13,8 +13,8 @@ use Rattle.rules.specs.Sizes.{blockBytes, unitBytes}
 use Rattle.rules.specs.Units.{Change, validLength, writtenIn}
 
 -- "it lies wholly inside both old and new valid length, and no written byte falls in it"; i counts the unit's blocks
-unfoldable pub settled : Change → ℕ → ℕ → Bool
-settled c unit i =
+unfoldable pub intact : Change → ℕ → ℕ → Bool
+intact c unit i =
     leb (suc i * blockBytes) (min (validLength (c .oldSize) unit) (validLength (c .newSize) unit))
     && not (writtenIn c (unit * unitBytes + i * blockBytes) (unit * unitBytes + suc i * blockBytes))
 
@@ -25,7 +25,7 @@ blocksAfter c unit = begun (validLength (c .newSize) unit) blockBytes
 -- "A block is kept if the old unit was checked, it is mapped, it lies wholly inside both old and new valid length, and no written byte falls in it."
 unfoldable pub candidates : Change → ℕ → Bool → List (Option ℕ) → List (Option ℕ)
 candidates c unit verified old =
-    map (λ i. if verified && settled c unit i then getD old i none else none) (range 0 (blocksAfter c unit))
+    map (λ i. if verified && intact c unit i then getD old i none else none) (range 0 (blocksAfter c unit))
 
 -- "Kept neighbours with adjoining physical blocks continue a run, and so do two not kept; every other pair breaks it."
 unfoldable pub continues : Option ℕ → Option ℕ → Bool

@@ -2,6 +2,7 @@ pub mod Lists
 pub mod Sizes
 pub mod Bytes
 pub mod Head
+pub mod Time
 pub mod Card
 pub mod Extent
 pub mod Group

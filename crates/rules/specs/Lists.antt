@@ -55,11 +55,15 @@ find f xs = head? (filter f xs)
 unfoldable pub member : ℕ → List ℕ → Bool
 member n xs = any (eqb n) xs
 
+-- the test passes at each element and the next
+unfoldable pub neighbours : {A : Type 0} → (A → A → Bool) → List A → Bool
+neighbours f [] = true
+neighbours f (x ∷ []) = true
+neighbours f (x ∷ y ∷ ys) = f x y && neighbours f (y ∷ ys)
+
 -- each element stands before the next
-unfoldable pub ascending : {A : Type 0} → (A → A → Bool) → List A → Bool
-ascending before [] = true
-ascending before (x ∷ []) = true
-ascending before (x ∷ y ∷ ys) = before x y && ascending before (y ∷ ys)
+abbrev pub ascending : {A : Type 0} → (A → A → Bool) → List A → Bool
+ascending before xs = neighbours before xs
 
 -- x put in at its place: after the elements that stand before it
 unfoldable pub insert : {A : Type 0} → (A → A → Bool) → A → List A → List A

@@ -10,7 +10,7 @@ use Rattle.rules.specs.Lists.{if_then_else_, maybe, find}
 use Rattle.rules.specs.Sizes.{mostTransfer}
 use Rattle.rules.specs.Bytes.{patch, padded}
 use Rattle.rules.specs.Call.{Call}
-use Rattle.rules.specs.Call.Call.{fresh, enter, write, grow, read, settle, fill}
+use Rattle.rules.specs.Call.Call.{fresh, enter, write, grow, settle, look}
 
 -- "Fed: each call's arguments without the store's buffers, whether it was refused [..]; nothing else."
 pub record Fed : Type 0 where
@@ -35,13 +35,12 @@ overwrite offset new old = patch (padded offset old) offset new
 -- new size. Read, settle, fill [..]: no change."
 unfoldable pub accepted : Call → List File → List File
 accepted (fresh uuid reserved) files = []
-accepted (enter object seconds nanoseconds) files = record { object = object; bytes = [] } ∷ files
-accepted (write object offset bytes seconds nanoseconds) files =
+accepted (enter object time) files = record { object = object; bytes = [] } ∷ files
+accepted (write object offset bytes time) files =
     if eqb (length bytes) 0 then files else change object (overwrite offset (take mostTransfer bytes)) files
-accepted (grow object size seconds nanoseconds) files = change object (padded size) files
-accepted (read object offset out) files = files
+accepted (grow object size time) files = change object (padded size) files
 accepted settle files = files
-accepted fill files = files
+accepted (look l) files = files
 
 -- "refused calls: no change"
 unfoldable pub step : Fed → List File → List File

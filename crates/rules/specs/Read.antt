@@ -9,12 +9,13 @@ use Rattle.rules.specs.Sizes.{unitBytes, mostTransfer}
 use Rattle.rules.specs.Bytes.{part}
 use Rattle.rules.specs.Card.{Card}
 use Rattle.rules.specs.Store.{Store, Volume, decode}
-use Rattle.rules.specs.Refusal.{Refusal, Result, Outcome, firstOf, result}
+use Rattle.rules.specs.Refusal.{Refusal, Outcome, firstOf}
 use Rattle.rules.specs.Refusal.Outcome.{refuse, accept}
 use Rattle.rules.specs.Units.{validLength, unitsOf}
 use Rattle.rules.specs.Inspect.{Inspected, inspectUnit}
 use Rattle.rules.specs.Inspect.Inspected.{damaged, hole, checked}
-use Rattle.rules.specs.Write.{storeCases, withCard}
+use Rattle.rules.specs.Integrity.{storeCases}
+use Rattle.rules.specs.Arguments.{withCard}
 
 -- "0 at or past the end or for an empty buffer; else at most 1,048,576 bytes": the bytes that a read gets of a file of this size
 unfoldable pub readLength : ℕ → ℕ → ℕ → ℕ
@@ -60,7 +61,3 @@ readFile offset s out card =
 -- refusals 1 to 3, then those of the units
 unfoldable pub readOutcome : ℕ → ℕ → List ℕ → Store → Outcome
 readOutcome object offset out s = firstOf (storeCases s) (withCard (decode s) object (readFile offset s out))
-
--- the call
-unfoldable pub read : ℕ → ℕ → List ℕ → Store → Result
-read object offset out s = result s out (readOutcome object offset out s)

@@ -74,4 +74,4 @@ pub record Result : Type 0 where
 -- "An accepted call returns number 0, with its answer as the count." A refused one returns its number with count 0 and changes no lent byte.
 unfoldable pub result : Store → List ℕ → Outcome → Result
 result s out (refuse r) = record { number = numberOf r; count = 0; store = s; out = out }
-result s out (accept n left given) = record { number = 0; count = n; store = left; out = given }
+result s out (accept n left filled) = record { number = 0; count = n; store = left; out = filled }

@@ -41,18 +41,6 @@ pub data Step : Type 0 where
   untouched : Step
   rewritten : Rewritten → Step
 
--- a unit with these valid bytes, kept blocks and new blocks
-unfoldable pub layOut : Volume → Change → ℕ → List ℕ → List (Option ℕ) → List ℕ → Rewritten
-layOut v c unit bytes kept new = record {
-  unit = unit;
-  bytes = bytes;
-  checksum = unitChecksum (v .uuid) (c .object) unit bytes;
-  kept = kept;
-  blocks = assigned kept new;
-  new = new;
-  superseded = superseded (unitMapping v (c .object) unit unitBlocks) kept;
-}
-
 -- "the card's count loses superseded blocks and gains new ones"; each place is counted. Where the difference would be cut off, 14 refuses
 unfoldable pub allocatedAfter : ℕ → Rewritten → ℕ
 allocatedAfter n r = n - length (r .superseded) + length (r .new)
@@ -65,30 +53,44 @@ countDisagrees n r = ltb n (length (r .superseded)) || ltb mostAllocated (alloca
 unfoldable pub counted : Progress → Rewritten → Step
 counted p r = if countDisagrees (p .allocated) r then stopped count-disagrees else rewritten r
 
--- refusal 13, then the blocks, for a unit that keeps these
-unfoldable pub allocated : Volume → Change → ℕ → Progress → List ℕ → List (Option ℕ) → Step
-allocated v c unit p bytes kept =
-    if tooFew (v .blocks) (v .used) (p .taken) (wanted kept) then stopped no-space
-    else counted p (layOut v c unit bytes kept (allocateData (v .blocks) (v .used) (p .hint) (p .taken) (wanted kept)))
+-- a unit of a change to a file of a volume
+module _ (v : Volume) (c : Change) (unit : ℕ) where
+  -- with these valid bytes, kept blocks and new blocks
+  unfoldable pub layOut : List ℕ → List (Option ℕ) → List ℕ → Rewritten
+  layOut bytes kept new = record {
+    unit = unit;
+    bytes = bytes;
+    checksum = unitChecksum (v .uuid) (c .object) unit bytes;
+    kept = kept;
+    blocks = assigned kept new;
+    new = new;
+    superseded = superseded (unitMapping v (c .object) unit unitBlocks) kept;
+  }
 
--- a unit whose old bytes are these: none where they were not read, and verified where they were checked
-unfoldable pub replaced : ℕ → Volume → Change → ℕ → Progress → Bool → List ℕ → Step
-replaced limit v c unit p verified old =
-    allocated v c unit p (assembled c unit old)
-    (retainedBlocks limit c unit verified (unitMapping v (c .object) unit unitBlocks))
+  -- refusal 13, then the blocks, where it keeps these
+  unfoldable pub allocateUnit : Progress → List ℕ → List (Option ℕ) → Step
+  allocateUnit p bytes kept =
+      if tooFew (v .blocks) (v .used) (p .taken) (wanted kept) then stopped no-space
+      else counted p (layOut bytes kept (allocateData (v .blocks) (v .used) (p .hint) (p .taken) (wanted kept)))
 
--- a unit that was read
-unfoldable pub afterRead : ℕ → Volume → Change → ℕ → Progress → Inspected → Step
-afterRead limit v c unit p (damaged r) = stopped r
-afterRead limit v c unit p hole =
-    if touches c unit then replaced limit v c unit p false [] else untouched
-afterRead limit v c unit p (checked old) = replaced limit v c unit p true old
+-- the same, with a limit of runs, and what the units before it left
+module _ (limit : ℕ) (v : Volume) (c : Change) (unit : ℕ) (p : Progress) where
+  -- from these old bytes: none where they were not read, and verified where they were checked
+  unfoldable pub rewriteFrom : Bool → List ℕ → Step
+  rewriteFrom verified old =
+      allocateUnit v c unit p (assembled c unit old)
+      (retainedBlocks limit c unit verified (unitMapping v (c .object) unit unitBlocks))
 
--- `rewrite_unit`: "Its old bytes are read and checked if there are any and the write does not cover all of them."
-unfoldable pub rewriteUnit : ℕ → Volume → Change → ℕ → Progress → Step
-rewriteUnit limit v c unit p =
-    if readsOld c unit then afterRead limit v c unit p (inspectUnit v (c .object) (c .oldSize) unit)
-    else replaced limit v c unit p false []
+  -- where it was read
+  unfoldable pub afterRead : Inspected → Step
+  afterRead (damaged r) = stopped r
+  afterRead hole = if touches c unit then rewriteFrom false [] else untouched
+  afterRead (checked old) = rewriteFrom true old
+
+  -- `rewrite_unit`: "Its old bytes are read and checked if there are any and the write does not cover all of them."
+  unfoldable pub rewriteUnit : Step
+  rewriteUnit =
+      if readsOld c unit then afterRead (inspectUnit v (c .object) (c .oldSize) unit) else rewriteFrom false []
 
 -- what the next unit finds
 unfoldable pub after : Progress → Rewritten → Progress
@@ -103,16 +105,16 @@ pub data Plan : Type 0 where
   refused : Refusal → Plan
   planned : List Rewritten → Progress → Plan
 
--- a rewritten unit before those after it
-unfoldable pub before : Rewritten → Plan → Plan
-before r (refused e) = refused e
-before r (planned rs p) = planned (r ∷ rs) p
+-- a rewritten unit, and the plan of those after it
+unfoldable pub prepend : Rewritten → Plan → Plan
+prepend r (refused e) = refused e
+prepend r (planned rs p) = planned (r ∷ rs) p
 
 -- a unit, and then those after it with what it left
 unfoldable pub andThen : Progress → Step → (Progress → Plan) → Plan
 andThen p (stopped r) next = refused r
 andThen p untouched next = next p
-andThen p (rewritten r) next = before r (next (after p r))
+andThen p (rewritten r) next = prepend r (next (after p r))
 
 -- `rewrite_units`: each unit in turn; ascending, as the lists of units are
 unfoldable pub rewriteUnits : ℕ → Volume → Change → List ℕ → Progress → Plan

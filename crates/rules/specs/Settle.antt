@@ -4,23 +4,14 @@ use mathlib.Core.List.{[]}
 use mathlib.Core.Bool.{false, not, _&&_}
 use Prim.Native.Nat.{ℕ, _*_, _/_}
 use Rattle.rules.specs.Lists.{count, range}
-use Rattle.rules.specs.Store.{Store, Volume, decode, encodeInto}
-use Rattle.rules.specs.Refusal.{Result, Outcome, firstOf, result}
+use Rattle.rules.specs.Store.{Store, Volume, decode, encodeInto, withMaps}
+use Rattle.rules.specs.Refusal.{Outcome, firstOf}
 use Rattle.rules.specs.Refusal.Outcome.{accept}
-use Rattle.rules.specs.Write.{storeCases}
+use Rattle.rules.specs.Integrity.{storeCases}
 
 -- "settle, which clears both bits of every retired block"
 unfoldable pub settled : Volume → Volume
-settled v = record {
-  uuid = v .uuid;
-  blocks = v .blocks;
-  reserved = v .reserved;
-  hint = v .hint;
-  books = v .books;
-  used = λ n. v .used n && not (v .retired n);
-  retired = λ n. false;
-  image = v .image;
-}
+settled v = withMaps (λ n. v .used n && not (v .retired n)) (λ n. false) v
 
 -- "and answers how many"
 unfoldable pub retiredBlocks : Volume → ℕ
@@ -29,10 +20,6 @@ retiredBlocks v = count (v .retired) (range 0 (v .blocks))
 -- refusals 1 and 2
 unfoldable pub settleOutcome : Store → Outcome
 settleOutcome s = firstOf (storeCases s) (accept (retiredBlocks (decode s)) (encodeInto s (settled (decode s))) [])
-
--- the call settle
-unfoldable pub settle : Store → Result
-settle s = result s [] (settleOutcome s)
 
 -- the used blocks
 unfoldable pub usedBlocks : Volume → ℕ
@@ -45,7 +32,3 @@ perMille used all = used * 1000 / all
 -- refusals 1 and 2; the store stays
 unfoldable pub fillOutcome : Store → Outcome
 fillOutcome s = firstOf (storeCases s) (accept (perMille (usedBlocks (decode s)) (decode s .blocks)) s [])
-
--- the call fill
-unfoldable pub fill : Store → Result
-fill s = result s [] (fillOutcome s)

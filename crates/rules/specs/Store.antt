@@ -10,11 +10,11 @@ use Rattle.rules.specs.Lists.{find}
 use Rattle.rules.specs.Sizes.{blockBytes}
 use Rattle.rules.specs.Bytes.{part, bitSet, Bytes}
 use Rattle.rules.specs.Head.{Head, decodeHead, encodeHead}
-use Rattle.rules.specs.Card.{Card, cardBytes, decodeCard, encodeCard}
-use Rattle.rules.specs.Extent.{extentBytes, decodeExtent, encodeExtent}
-use Rattle.rules.specs.Group.{groupBytes, decodeGroup, encodeGroup}
+use Rattle.rules.specs.Card.{Card, encodeCard}
+use Rattle.rules.specs.Extent.{encodeExtent}
+use Rattle.rules.specs.Group.{encodeGroup}
 use Rattle.rules.specs.Map.{encodeMap}
-use Rattle.rules.specs.Book.{Books, decodeBook, encodeBook}
+use Rattle.rules.specs.Book.{Books, LentBooks, decodeBooks, encodeBook}
 
 -- "The store's buffers are the image, the head, the three books, both maps": "Each call lends the whole store."
 pub record Store : Type 0 where
@@ -47,12 +47,15 @@ pub record Volume : Type 0 where
   pub retired : ℕ → Bool
   pub image : List ℕ
 
--- the records that a head counts in the three books
-unfoldable pub decodeBooks : Head → Store → Books
-decodeBooks h s = record {
-  cards = decodeBook decodeCard cardBytes (h .cards) (s .cards);
-  extents = decodeBook decodeExtent extentBytes (h .extents) (s .extents);
-  groups = decodeBook decodeGroup groupBytes (h .groups) (s .groups);
+-- the store's books, with the numbers of records that a head has
+abbrev pub lentBooks : Head → Store → LentBooks
+lentBooks h s = record {
+  cards = s .cards;
+  cardCount = h .cards;
+  extents = s .extents;
+  extentCount = h .extents;
+  groups = s .groups;
+  groupCount = h .groups;
 }
 
 -- the volume that the store with this head says
@@ -62,7 +65,7 @@ decodeWith h s = record {
   blocks = h .blocks;
   reserved = h .reserved;
   hint = h .hint;
-  books = decodeBooks h s;
+  books = decodeBooks (lentBooks h s);
   used = bitSet (s .used);
   retired = bitSet (s .retired);
   image = s .image;
@@ -71,6 +74,45 @@ decodeWith h s = record {
 -- what the store says
 unfoldable pub decode : Store → Volume
 decode s = decodeWith (decodeHead (s .head)) s
+
+-- the volume with other books
+abbrev pub withBooks : Books → Volume → Volume
+withBooks b v = record {
+  uuid = v .uuid;
+  blocks = v .blocks;
+  reserved = v .reserved;
+  hint = v .hint;
+  books = b;
+  used = v .used;
+  retired = v .retired;
+  image = v .image;
+}
+
+-- with other maps
+abbrev pub withMaps : (used retired : ℕ → Bool) → Volume → Volume
+withMaps used retired v = record {
+  uuid = v .uuid;
+  blocks = v .blocks;
+  reserved = v .reserved;
+  hint = v .hint;
+  books = v .books;
+  used = used;
+  retired = retired;
+  image = v .image;
+}
+
+-- with another image, and the hint that goes with what was written there
+abbrev pub withImage : List ℕ → ℕ → Volume → Volume
+withImage image hint v = record {
+  uuid = v .uuid;
+  blocks = v .blocks;
+  reserved = v .reserved;
+  hint = hint;
+  books = v .books;
+  used = v .used;
+  retired = v .retired;
+  image = image;
+}
 
 -- the head of a volume
 unfoldable pub headOf : Volume → Head
@@ -95,10 +137,6 @@ encodeInto s v = record {
   used = encodeMap (v .blocks) (v .used);
   retired = encodeMap (v .blocks) (v .retired);
 }
-
--- the places of a book: its records of this width, full or empty
-unfoldable pub places : ℕ → List ℕ → ℕ
-places width book = length book / width
 
 -- the whole blocks of the image
 unfoldable pub imageBlocks : Store → ℕ

@@ -39,9 +39,9 @@ writeChange object size offset bytes = record {
 unfoldable pub growChange : ℕ → ℕ → ℕ → Change
 growChange object size newSize = record { object = object; oldSize = size; newSize = newSize; offset = 0; bytes = [] }
 
--- the units in which the file's bytes lie from one place up to another, the latter not included
+-- the units in which the file's bytes lie from one place up to another, the latter not included; none where there is no byte between
 unfoldable pub unitsOf : ℕ → ℕ → List ℕ
-unitsOf from to = range (from / unitBytes) (begun to unitBytes - from / unitBytes)
+unitsOf from to = if ltb from to then range (from / unitBytes) (begun to unitBytes - from / unitBytes) else []
 
 -- the units in which written bytes lie
 unfoldable pub touchedUnits : Change → List ℕ
