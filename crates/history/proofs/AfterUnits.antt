@@ -10,6 +10,7 @@ use native.Mathlib.Omega.{arith}
 use lib.Dec.{eqb, leb}
 use lib.ListN.{length, getD, getElem?}
 use borrow.Author.Tests.{eqb-true, eq-eqb, ne-eqb}
+use Rattle.rules.specs.Time.{Time}
 use Rattle.rules.specs.Lists.{if_then_else_, given, range, all, any, member, ascending, begun}
 use Rattle.rules.specs.Sizes.{blockBytes, unitBlocks, groupUnits}
 use Rattle.rules.specs.Bytes.{part, padded}
@@ -119,10 +120,10 @@ module _ {v : Volume} {c : Change} {xs ys : List ℕ} {us : List ℕ} {p : Progr
       (λ t. if-true (eqb o (c .object)) _ _ t ∙ newMapping-outside rs b (mapping (v .books .extents) o b) (outside-of b (h (eqb-true o (c .object) t))))
       (λ t. if-false (eqb o (c .object)) _ _ t)
 
-  module _ (seconds nanoseconds : ℕ) where
+  module _ (time : Time) where
     -- the volume that is left
     abbrev left : Volume
-    left = finished c seconds nanoseconds rs q v
+    left = finished c time rs q v
 
     -- a unit that is not rewritten is the same
     pub unit-stays : (o u : ℕ) → (o ≡ c .object → Each (λ r. u ≡ r .unit → ⊥) rs) → SameUnit left v o u

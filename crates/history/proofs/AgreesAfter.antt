@@ -11,6 +11,7 @@ use native.Mathlib.Omega.{arith}
 use lib.Dec.{eqb, leb}
 use lib.ListN.{length, getD, List·getD-eq-default}
 use borrow.Author.Tests.{eqb-true, eq-eqb, ne-eqb, leb-true}
+use Rattle.rules.specs.Time.{Time}
 use Rattle.rules.specs.Lists.{if_then_else_, maybe, given, find, count, member, begun}
 use Rattle.rules.specs.Sizes.{blockBytes, unitBytes}
 use Rattle.rules.specs.Card.{Card}
@@ -97,15 +98,15 @@ pub card-of-object : (v : Volume) (o : ℕ) (e : Card) → cardOf v o ≡ some e
 unfolding cardOf
 card-of-object v o e h = eqb-true (e .object) o (find-passes (λ x. eqb (x .object) o) (v .books .cards) e h)
 
-module _ {v : Volume} {c : Change} {xs ys : List ℕ} {us : List ℕ} {p : Progress} {rs : List Rewritten} {q : Progress} {seconds nanoseconds reserved : ℕ}
-    (d : Carrying v c xs ys us p rs q) (k : CallRight v c us p seconds nanoseconds reserved) (start : p .allocated ≡ k .card .allocated) where
+module _ {v : Volume} {c : Change} {xs ys : List ℕ} {us : List ℕ} {p : Progress} {rs : List Rewritten} {q : Progress} {time reserved : ℕ}
+    (d : Carrying v c xs ys us p rs q) (k : CallRight v c us p time reserved) (start : p .allocated ≡ k .card .allocated) where
   -- the volume that is left
   abbrev w : Volume
-  w = finished c seconds nanoseconds rs q v
+  w = finished c time rs q v
 
   -- a card after the change
   abbrev moved : Card → Card
-  moved = cardAfter c (q .allocated) seconds nanoseconds
+  moved = cardAfter c (q .allocated) time
 
   -- the file's card after it
   abbrev newCard′ : Card
@@ -118,7 +119,7 @@ module _ {v : Volume} {c : Change} {xs ys : List ℕ} {us : List ℕ} {p : Progr
   -- the file's card is found
   card-found : cardOf w (c .object) ≡ some newCard′
   unfolding cardOf finished
-  card-found = found-after c (q .allocated) seconds nanoseconds (c .object) (v .books .cards) (k .card) (k .known)
+  card-found = found-after c (q .allocated) time (c .object) (v .books .cards) (k .card) (k .known)
 
   -- every other as before
   card-other′ : (o : ℕ) → (o ≡ c .object → ⊥) → cardOf w o ≡ cardOf v o
@@ -126,11 +127,11 @@ module _ {v : Volume} {c : Change} {xs ys : List ℕ} {us : List ℕ} {p : Progr
   card-other′ o n = go (find (λ x. eqb (x .object) o) (v .books .cards)) refl
     where
       go : (x : Option Card) → find (λ x. eqb (x .object) o) (v .books .cards) ≡ x
-          → find (λ x. eqb (x .object) o) (finishedCards c (q .allocated) seconds nanoseconds (v .books .cards)) ≡ find (λ x. eqb (x .object) o) (v .books .cards)
-      go none e = none-after c (q .allocated) seconds nanoseconds o (v .books .cards) e ∙ sym e
+          → find (λ x. eqb (x .object) o) (finishedCards c (q .allocated) time (v .books .cards)) ≡ find (λ x. eqb (x .object) o) (v .books .cards)
+      go none e = none-after c (q .allocated) time o (v .books .cards) e ∙ sym e
       go (some x) e =
           let z : x .object ≡ o = eqb-true (x .object) o (find-passes (λ x. eqb (x .object) o) (v .books .cards) x e) in
-          found-after c (q .allocated) seconds nanoseconds o (v .books .cards) x e ∙ ap some (card-theirs c (q .allocated) seconds nanoseconds x (λ y. n (sym z ∙ y))) ∙ sym e
+          found-after c (q .allocated) time o (v .books .cards) x e ∙ ap some (card-theirs c (q .allocated) time x (λ y. n (sym z ∙ y))) ∙ sym e
 
   -- no block of the file is mapped past its old end
   mapping-past : (b : ℕ) → begun (c .oldSize) blockBytes ≤ b → mapping (v .books .extents) (c .object) b ≡ none
@@ -180,15 +181,15 @@ module _ {v : Volume} {c : Change} {xs ys : List ℕ} {us : List ℕ} {p : Progr
         go : ((r : Rewritten) × List·Memᴰ r rs × (r .unit ≡ u)) ⊎ Each (λ r. u ≡ r .unit → ⊥) rs → UnitIs (unitPart u ys) (inspectUnit w (c .object) (length ys) u)
         go (inl r) =
             let e : inspectUnit w (c .object) (length ys) u ≡ checked (unitPart u ys) =
-            ap (λ (n : ℕ). inspectUnit w (c .object) n u) (sym (d .becomes .new)) ∙ ap (inspectUnit w (c .object) (c .newSize)) (sym (r .2)) ∙ unit-new d seconds nanoseconds (r .0) (r .1) ∙ ap (λ (n : ℕ). checked (unitPart n ys)) (r .2) in
+            ap (λ (n : ℕ). inspectUnit w (c .object) n u) (sym (d .becomes .new)) ∙ ap (inspectUnit w (c .object) (c .newSize)) (sym (r .2)) ∙ unit-new d time (r .0) (r .1) ∙ ap (λ (n : ℕ). checked (unitPart n ys)) (r .2) in
             rw e (is-checked refl)
-        go (inr n) = rw (inspect-unit-same w v (c .object) (length ys) u (unit-stays d seconds nanoseconds (c .object) u (λ e. n))) (old-unit u l n)
+        go (inr n) = rw (inspect-unit-same w v (c .object) (length ys) u (unit-stays d time (c .object) u (λ e. n))) (old-unit u l n)
 
     -- its card says its size
     object-after′ : ObjectIs w (c .object) ys
     object-after′ e h =
         let z : e ≡ newCard′ = Option·some-injective e newCard′ (sym h ∙ card-found) in
-        let m = card-mine c (q .allocated) seconds nanoseconds (k .card) card-object in
+        let m = card-mine c (q .allocated) time (k .card) card-object in
         let s : e .size ≡ length ys = ap (λ (x : Card). x .size) (z ∙ m) ∙ d .becomes .new in
         let o : e .object ≡ c .object = ap (λ (x : Card). x .object) (z ∙ m) ∙ card-object in
         (s, rw o file-after)
@@ -199,7 +200,7 @@ module _ {v : Volume} {c : Change} {xs ys : List ℕ} {us : List ℕ} {p : Progr
       let b : cardOf v o ≡ some e = sym (card-other′ o n) ∙ t in
       let r = h e b in
       let z : e .object ≡ o = card-of-object v o e b in
-      (r .0, λ u l. rw (inspect-unit-same w v (e .object) (length zs) u (unit-stays d seconds nanoseconds (e .object) u (λ y. absurd (n (sym z ∙ y))))) (r .1 u l))
+      (r .0, λ u l. rw (inspect-unit-same w v (e .object) (length zs) u (unit-stays d time (e .object) u (λ y. absurd (n (sym z ∙ y))))) (r .1 u l))
 
   -- ---- the places
 
@@ -227,15 +228,15 @@ module _ {v : Volume} {c : Change} {xs ys : List ℕ} {us : List ℕ} {p : Progr
   counts-after : ((e : Card) → List·Memᴰ e (v .books .cards) → e .allocated ≡ filePlaces v (e .object)) → (e : Card) → List·Memᴰ e (w .books .cards) → e .allocated ≡ filePlaces w (e .object)
   unfolding finished
   counts-after h e m =
-      let t = mem-through (moved) (v .books .cards) (rw (cards-are c (q .allocated) seconds nanoseconds (v .books .cards)) at m) in
+      let t = mem-through (moved) (v .books .cards) (rw (cards-are c (q .allocated) time (v .books .cards)) at m) in
       rw (t .2) (one (t .0) (t .1) (ℕ-discrete (t .0 .object) (c .object)))
     where
       one : (x : Card) → List·Memᴰ x (v .books .cards) → Dec (x .object ≡ c .object) → moved x .allocated ≡ filePlaces w (moved x .object)
       one x i (yes z) =
           let a : x .allocated ≡ k .card .allocated = ap (λ (y : Card). y .allocated) (each-mem (only-card d k) i z) in
           let b : x .allocated ≡ filePlaces v (c .object) = h x i ∙ ap (filePlaces v) z in
-          rw (card-mine c (q .allocated) seconds nanoseconds x z, z) (omega (arith, a, b, start, file-count, planned-count (d .planned) (k .enough)))
-      one x i (no n) = rw (card-theirs c (q .allocated) seconds nanoseconds x n) (h x i ∙ sym (other-count (x .object) n))
+          rw (card-mine c (q .allocated) time x z, z) (omega (arith, a, b, start, file-count, planned-count (d .planned) (k .enough)))
+      one x i (no n) = rw (card-theirs c (q .allocated) time x n) (h x i ∙ sym (other-count (x .object) n))
 
   -- ---- all
 
@@ -245,7 +246,7 @@ module _ {v : Volume} {c : Change} {xs ys : List ℕ} {us : List ℕ} {p : Progr
     objects = λ o. objects o (ℕ-discrete o (c .object));
     bytes = λ o zs h. bytes o zs h (ℕ-discrete o (c .object));
     slots = λ o u h. slots o u h (ℕ-discrete o (c .object));
-    onePlace = λ b l. holders-after d reserved (k .onePlace) seconds nanoseconds b (unfold finished in l);
+    onePlace = λ b l. holders-after d reserved (k .onePlace) time b (unfold finished in l);
     counts = counts-after (a .counts);
   }
     where
@@ -270,6 +271,6 @@ module _ {v : Volume} {c : Change} {xs ys : List ℕ} {us : List ℕ} {p : Progr
 
       slots : (o u : ℕ) → Past w o u → Dec (o ≡ c .object) → checksumOf w o u ≡ none
       slots o u h (yes e) =
-          let m : c .newSize ≤ u * unitBytes = omega (arith, h newCard′ (rw e card-found), ap (λ (x : Card). x .size) (card-mine c (q .allocated) seconds nanoseconds (k .card) card-object)) in
-          rw e (unit-stays d seconds nanoseconds (c .object) u (λ z. each-weaken (λ r i y. omega (arith, i .inside, m)) (made-all d)) .slot ∙ past u (omega (arith, m, d .becomes .old, d .becomes .new, d .becomes .more)))
-      slots o u h (no n) = unit-stays d seconds nanoseconds o u (λ z. absurd (n z)) .slot ∙ a .slots o u (λ e t. h e (card-other′ o n ∙ t))
+          let m : c .newSize ≤ u * unitBytes = omega (arith, h newCard′ (rw e card-found), ap (λ (x : Card). x .size) (card-mine c (q .allocated) time (k .card) card-object)) in
+          rw e (unit-stays d time (c .object) u (λ z. each-weaken (λ r i y. omega (arith, i .inside, m)) (made-all d)) .slot ∙ past u (omega (arith, m, d .becomes .old, d .becomes .new, d .becomes .more)))
+      slots o u h (no n) = unit-stays d time o u (λ z. absurd (n z)) .slot ∙ a .slots o u (λ e t. h e (card-other′ o n ∙ t))

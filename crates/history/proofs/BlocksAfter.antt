@@ -11,6 +11,7 @@ use native.Mathlib.Omega.{arith}
 use lib.Dec.{eqb, ltb, leb}
 use lib.ListN.{length, getD}
 use borrow.Author.Tests.{eq-eqb, ltb-true, leb-true, le-leb, not-true}
+use Rattle.rules.specs.Time.{Time}
 use Rattle.rules.specs.Lists.{if_then_else_, count, member}
 use Rattle.rules.specs.Sizes.{unitBlocks}
 use Rattle.rules.specs.Extent.{mapping}
@@ -170,7 +171,7 @@ module _ {v : Volume} {c : Change} {xs ys : List ℕ} {us : List ℕ} {p : Progr
   pub new-sited : Each (λ x. Sited v (x .block)) (newPlaces (c .object) rs)
   new-sited = each-newPlaces (c .object) (each-weaken (λ r m i l. made-sited r m i l) (made-all d))
 
-  module _ (reserved : ℕ) (one : (b : ℕ) → b < v .blocks → holders reserved v b ≡ 1) (seconds nanoseconds : ℕ) where
+  module _ (reserved : ℕ) (one : (b : ℕ) → b < v .blocks → holders reserved v b ≡ 1) (time : Time) where
     -- the places after the change
     abbrev after-places : List Place
     after-places = flatMap placesOf (finishedExtents (c .object) rs (v .books .extents))
@@ -184,7 +185,7 @@ module _ {v : Volume} {c : Change} {xs ys : List ℕ} {us : List ℕ} {p : Progr
     retired′ n = v .retired n || member n (supersededBlocks rs)
 
     -- every block is in one place
-    pub holders-after : (b : ℕ) → b < v .blocks → holders reserved (finished c seconds nanoseconds rs q v) b ≡ 1
+    pub holders-after : (b : ℕ) → b < v .blocks → holders reserved (finished c time rs q v) b ≡ 1
     unfolding holders finished places
     holders-after b l =
         let h : (if ltb b reserved then 1 else 0) + (if v .used b then 0 else 1) + (if v .retired b then 1 else 0) + count (λ x. eqb (x .block) b) (flatMap placesOf (v .books .extents)) ≡ 1 = one b l in
@@ -207,7 +208,7 @@ module _ {v : Volume} {c : Change} {xs ys : List ℕ} {us : List ℕ} {p : Progr
         new-sited
 
     -- mapped blocks keep the rule
-    pub mapped-after-right : mappedRight (finished c seconds nanoseconds rs q v) ≡ true
+    pub mapped-after-right : mappedRight (finished c time rs q v) ≡ true
     unfolding mappedRight finished
     mapped-after-right =
         mapped-places fit′ (finishedExtents (c .object) rs (v .books .extents))
@@ -223,7 +224,7 @@ module _ {v : Volume} {c : Change} {xs ys : List ℕ} {us : List ℕ} {p : Progr
             and-intro (used′ b && not (retired′ b)) (leb (v .reserved) b) (and-intro (used′ b) (not (retired′ b)) u (ap not r)) (le-leb (v .reserved) b (s .past))
 
     -- reserved blocks keep the rule
-    pub reserved-after : reservedRight (finished c seconds nanoseconds rs q v) ≡ true
+    pub reserved-after : reservedRight (finished c time rs q v) ≡ true
     unfolding reservedRight finished
     reserved-after =
         all-range-of (λ n. used′ n && not (retired′ n)) 0 (v .reserved) (λ i l. rw (zero-add i) (keeps i l))
@@ -239,7 +240,7 @@ module _ {v : Volume} {c : Change} {xs ys : List ℕ} {us : List ℕ} {p : Progr
         keeps b l = and-intro (used′ b) (not (retired′ b)) (or-left (v .used b) (member b (newBlocks rs)) (and-left (v .used b) (not (v .retired b)) (reserved-used b l))) (ap not (stays b l))
 
     -- retired blocks keep the rule
-    pub retired-after : retiredRight (finished c seconds nanoseconds rs q v) ≡ true
+    pub retired-after : retiredRight (finished c time rs q v) ≡ true
     unfolding retiredRight finished
     retired-after = all-range-of (λ n. not (retired′ n) || used′ n) 0 (v .blocks) (λ i l. keeps (0 + i))
       where

@@ -9,6 +9,7 @@ use native.Mathlib.Omega.{arith}
 use lib.Dec.{eqb, ltb, leb}
 use lib.ListN.{length, length-map}
 use borrow.Author.Tests.{eqb-true, eqb-false, eq-eqb, ne-eqb, ltb-true, lt-ltb, leb-true, le-leb}
+use Rattle.rules.specs.Time.{Time}
 use Rattle.rules.specs.Lists.{if_then_else_, maybe, all, find, ascending, begun}
 use Rattle.rules.specs.Sizes.{blockBytes, nanosecondsBound}
 use Rattle.rules.specs.Card.{Card, cardBefore}
@@ -33,7 +34,7 @@ card-only object k (x ∷ cs) a e =
     later = unfold cardBefore in each-all (cardBefore x) (λ d t. ltb-true (x .object) (d .object) t) cs
         (ascending-all cardBefore (λ x y z p q. lt-ltb (x .object) (z .object) (omega (arith, ltb-true (x .object) (y .object) p, ltb-true (y .object) (z .object) q))) x cs a)
 
-module _ (c : Change) (allocated seconds nanoseconds : ℕ) where
+module _ (c : Change) (allocated : ℕ) (time : Time) where
   -- a card after the change
   unfoldable pub cardAfter : Card → Card
   cardAfter d = if eqb (d .object) (c .object)
@@ -41,7 +42,7 @@ module _ (c : Change) (allocated seconds nanoseconds : ℕ) where
       else d
 
   -- the cards are these
-  pub cards-are : (cs : List Card) → finishedCards c allocated seconds nanoseconds cs ≡ map cardAfter cs
+  pub cards-are : (cs : List Card) → finishedCards c allocated time cs ≡ map cardAfter cs
   unfolding finishedCards cardAfter
   cards-are cs = refl
 
@@ -61,46 +62,46 @@ module _ (c : Change) (allocated seconds nanoseconds : ℕ) where
   object-after d = if-cases (λ (x : Card). x .object ≡ d .object) (eqb (d .object) (c .object)) _ d (λ e. refl) (λ e. refl)
 
   -- what is found is what was, put through
-  find-after : (object : ℕ) (cs : List Card) → find (λ d. eqb (d .object) object) (finishedCards c allocated seconds nanoseconds cs) ≡ maybe none (λ d. some (cardAfter d)) (find (λ d. eqb (d .object) object) cs)
+  find-after : (object : ℕ) (cs : List Card) → find (λ d. eqb (d .object) object) (finishedCards c allocated time cs) ≡ maybe none (λ d. some (cardAfter d)) (find (λ d. eqb (d .object) object) cs)
   find-after object cs = ap (find (λ d. eqb (d .object) object)) (cards-are cs) ∙ find-through (λ d. eqb (d .object) object) cardAfter (λ d. ap (λ (n : ℕ). eqb n object) (object-after d)) cs
 
   -- a card that was found is found so
   pub found-after : (object : ℕ) (cs : List Card) (d : Card) → find (λ d. eqb (d .object) object) cs ≡ some d
-      → find (λ d. eqb (d .object) object) (finishedCards c allocated seconds nanoseconds cs) ≡ some (cardAfter d)
+      → find (λ d. eqb (d .object) object) (finishedCards c allocated time cs) ≡ some (cardAfter d)
   found-after object cs d e = find-after object cs ∙ maybe-some none (λ d. some (cardAfter d)) (find (λ d. eqb (d .object) object) cs) d e
 
   -- none where there was none
-  pub none-after : (object : ℕ) (cs : List Card) → find (λ d. eqb (d .object) object) cs ≡ none → find (λ d. eqb (d .object) object) (finishedCards c allocated seconds nanoseconds cs) ≡ none
+  pub none-after : (object : ℕ) (cs : List Card) → find (λ d. eqb (d .object) object) cs ≡ none → find (λ d. eqb (d .object) object) (finishedCards c allocated time cs) ≡ none
   none-after object cs e = find-after object cs ∙ maybe-none none (λ d. some (cardAfter d)) (find (λ d. eqb (d .object) object) cs) e
 
   -- the book stays in order
-  pub cards-order : (cs : List Card) → ascending cardBefore cs ≡ true → ascending cardBefore (finishedCards c allocated seconds nanoseconds cs) ≡ true
+  pub cards-order : (cs : List Card) → ascending cardBefore cs ≡ true → ascending cardBefore (finishedCards c allocated time cs) ≡ true
   cards-order cs a = rw (cards-are cs) (ascending-through cardBefore cardAfter (λ x y. unfold cardBefore in (rw (object-after x, object-after y) refl)) cs a)
 
   -- the book has as many cards as before
-  pub cards-length : (cs : List Card) → length (finishedCards c allocated seconds nanoseconds cs) ≡ length cs
+  pub cards-length : (cs : List Card) → length (finishedCards c allocated time cs) ≡ length cs
   cards-length cs = ap length (cards-are cs) ∙ length-map cs cardAfter
 
   -- and right times
   pub cards-times : nanoseconds < nanosecondsBound → (cs : List Card) → all (λ d. ltb (d .nanoseconds) nanosecondsBound) cs ≡ true
-      → all (λ d. ltb (d .nanoseconds) nanosecondsBound) (finishedCards c allocated seconds nanoseconds cs) ≡ true
+      → all (λ d. ltb (d .nanoseconds) nanosecondsBound) (finishedCards c allocated time cs) ≡ true
   cards-times l cs h =
       rw (cards-are cs, all-map (λ d. ltb (d .nanoseconds) nanosecondsBound) cardAfter cs)
       (all-weaken (λ d. ltb (cardAfter d .nanoseconds) nanosecondsBound) (λ d. ltb (d .nanoseconds) nanosecondsBound) cs one h)
     where
       one : (d : Card) → ltb (d .nanoseconds) nanosecondsBound ≡ true → ltb (cardAfter d .nanoseconds) nanosecondsBound ≡ true
-      one d t = unfold cardAfter in if-cases (λ (x : Card). ltb (x .nanoseconds) nanosecondsBound ≡ true) (eqb (d .object) (c .object)) _ d (λ e. lt-ltb nanoseconds nanosecondsBound l) (λ e. t)
+      one d t = unfold cardAfter in if-cases (λ (x : Card). ltb (x .nanoseconds) nanosecondsBound ≡ true) (eqb (d .object) (c .object)) _ d (λ e. lt-ltb nanotimeBound l) (λ e. t)
 
   -- its numbers in range
   pub cards-fit : c .newSize < 2 ^ 63 → allocated < 2 ^ 35 → seconds < 2 ^ 63 → nanoseconds < 2 ^ 30 → (cs : List Card) → Each CardFits cs
-      → Each CardFits (finishedCards c allocated seconds nanoseconds cs)
+      → Each CardFits (finishedCards c allocated time cs)
   cards-fit z a s n cs h = rw (cards-are cs) (each-map cardAfter (each-weaken one h))
     where
       one : (d : Card) → CardFits d → CardFits (cardAfter d)
       one d f = unfold cardAfter in if-cases CardFits (eqb (d .object) (c .object)) _ d (λ e. record { object = f .object; size = z; allocated = a; seconds = s; nanoseconds = n }) (λ e. f)
 
   -- an extent stays in its file, which is not shorter
-  pub file-stays : {cs : List Card} → Each (λ d. d .object ≡ c .object → d .size ≤ c .newSize) cs → (e : Extent) → inFile cs e ≡ true → inFile (finishedCards c allocated seconds nanoseconds cs) e ≡ true
+  pub file-stays : {cs : List Card} → Each (λ d. d .object ≡ c .object → d .size ≤ c .newSize) cs → (e : Extent) → inFile cs e ≡ true → inFile (finishedCards c allocated time cs) e ≡ true
   file-stays {cs} h e t = rw (cards-are cs) (unfold inFile in (any-map _ cardAfter cs
       ∙ any-each (λ d. eqb (cardAfter d .object) (e .object) && leb (extentEnd e) (begun (cardAfter d .size) blockBytes)) (λ d. eqb (d .object) (e .object) && leb (extentEnd e) (begun (d .size) blockBytes)) (each-weaken one h) (unfold inFile in t)))
     where

@@ -11,6 +11,7 @@ use native.Mathlib.Omega.{arith}
 use lib.Dec.{eqb}
 use lib.ListN.{length, take, length-take}
 use borrow.Author.Tests.{eq-eqb, ne-eqb}
+use Rattle.rules.specs.Time.{Time}
 use Rattle.rules.specs.Lists.{if_then_else_, given, count, any, member}
 use Rattle.rules.specs.Sizes.{blockBytes, unitBlocks, mostBlocks, mostRuns, mostSize, mostTransfer}
 use Rattle.rules.specs.Bytes.{Bytes, padded}
@@ -143,13 +144,13 @@ module _ {files : List File} {reserved : ℕ} {s : Store} (h : Inv files reserve
   never-plan limit = refused-is (plan-is limit vol c xs ys known-file us first enough)
 
   -- the change is kept
-  inv-change : (limit answer seconds nanoseconds : ℕ) → TimeRight seconds nanoseconds → c .newSize ≤ mostSize → Bytes (c .bytes) → (f : List ℕ → List ℕ) → f xs ≡ ys
-      → (o : Outcome) → Carried answer c seconds nanoseconds s (rewriteUnits limit vol c us first) o → Inv (change (c .object) f files) reserved (result s [] o .store)
-  inv-change limit answer seconds nanoseconds time end w f y o r =
+  inv-change : (limit answer : ℕ) (time : Time) → TimeRight time → c .newSize ≤ mostSize → Bytes (c .bytes) → (f : List ℕ → List ℕ) → f xs ≡ ys
+      → (o : Outcome) → Carried answer c time s (rewriteUnits limit vol c us first) o → Inv (change (c .object) f files) reserved (result s [] o .store)
+  inv-change limit answer time time end w f y o r =
       rw (r .done) (unfold result in inv-says (change (c .object) f files) reserved (encodeInto s left) left says (agrees-after d k refl files f y (g .array) (h .agrees)))
     where
       left : Volume
-      left = finished c seconds nanoseconds (r .units) (r .progress) vol
+      left = finished c time (r .units) (r .progress) vol
 
       d : Carrying vol c xs ys us first (r .units) (r .progress)
       d = record {
@@ -161,7 +162,7 @@ module _ {files : List File} {reserved : ℕ} {s : Store} (h : Inv files reserve
         slots = each-weaken (λ g f. f .slots) (decode-fits s (h .passes) (h .bytes) .groups);
       }
 
-      k : CallRight vol c us first seconds nanoseconds reserved
+      k : CallRight vol c us first time reserved
       k = record {
         card = card;
         known = g .known;
@@ -242,18 +243,18 @@ module _ (files : List File) (reserved : ℕ) (s : Store) (h : Inv files reserve
   }
 
   -- a write that was carried out keeps it
-  write-done : (offset : ℕ) (bytes : List ℕ) (seconds nanoseconds : ℕ) (o : Outcome) → Bytes bytes → Written mostRuns offset bytes seconds nanoseconds s card o
+  write-done : (offset : ℕ) (bytes : List ℕ) (time : Time) (o : Outcome) → Bytes bytes → Written mostRuns offset bytes time s card o
       → Inv (change object (overwrite offset (take mostTransfer bytes)) files) reserved (result s [] o .store)
-  write-done offset bytes seconds nanoseconds o b w =
+  write-done offset bytes time o b w =
       subst (λ (n : ℕ). Inv (change n (overwrite offset (take mostTransfer bytes)) files) reserved (result s [] o .store)) mine
-      (unfold writeChange in inv-change h (write-change offset bytes (w .some)) mostRuns (length (clipped bytes)) seconds nanoseconds (w .time) (omega (arith, w .end, size-most))
+      (unfold writeChange in inv-change h (write-change offset bytes (w .some)) mostRuns (length (clipped bytes)) time (w .time) (omega (arith, w .end, size-most))
       (unfold clipped in bytes-take mostTransfer bytes b) (overwrite offset (take mostTransfer bytes)) refl o (w .carried))
 
   -- and so does a grow
-  grow-done : (size seconds nanoseconds : ℕ) (o : Outcome) → Grown size seconds nanoseconds s card o → Inv (change object (padded size) files) reserved (result s [] o .store)
-  grow-done size seconds nanoseconds o w =
+  grow-done : (size : ℕ) (time : Time) (o : Outcome) → Grown size time s card o → Inv (change object (padded size) files) reserved (result s [] o .store)
+  grow-done size time o w =
       subst (λ (n : ℕ). Inv (change n (padded size) files) reserved (result s [] o .store)) mine
-      (unfold growChange in inv-change h (grow-change size (w .more)) mostRuns 0 seconds nanoseconds (w .time) (w .end) bytes-nil (padded size) refl o (w .carried))
+      (unfold growChange in inv-change h (grow-change size (w .more)) mostRuns 0 time (w .time) (w .end) bytes-nil (padded size) refl o (w .carried))
 
   -- a grow to the size that there is leaves the array as it is
   grow-none : (size : ℕ) → size ≡ card .size → (n : ℕ) → Dec (n ≡ object) → fileBytes (change object (padded size) files) n ≡ fileBytes files n
@@ -278,49 +279,49 @@ inv-same files news reserved s e h = record {
 }
 
 -- an accepted write keeps it
-write-keeps : (object offset : ℕ) (bytes : List ℕ) (seconds nanoseconds : ℕ) (files : List File) (reserved : ℕ) (s : Store)
-    → InRange (write object offset bytes seconds nanoseconds) → call (write object offset bytes seconds nanoseconds) s .number ≡ 0 → Inv files reserved s
-    → Inv (accepted (write object offset bytes seconds nanoseconds) files) reserved (call (write object offset bytes seconds nanoseconds) s .store)
+write-keeps : (object offset : ℕ) (bytes : List ℕ) (time : Time) (files : List File) (reserved : ℕ) (s : Store)
+    → InRange (write object offset bytes time) → call (write object offset bytes time) s .number ≡ 0 → Inv files reserved s
+    → Inv (accepted (write object offset bytes time) files) reserved (call (write object offset bytes time) s .store)
 unfolding call lentOut accepted
-write-keeps object offset bytes seconds nanoseconds files reserved s i e h = go (r .done)
+write-keeps object offset bytes time files reserved s i e h = go (r .done)
   where
     o : Outcome
-    o = outcome (write object offset bytes seconds nanoseconds) s
+    o = outcome (write object offset bytes time) s
 
-    r : FileCall s object (λ c o. ((length bytes ≡ 0) × (o ≡ accept 0 s [])) ⊎ Written mostRuns offset bytes seconds nanoseconds s c o) o
-    r = write-accepted object offset bytes seconds nanoseconds s e
+    r : FileCall s object (λ c o. ((length bytes ≡ 0) × (o ≡ accept 0 s [])) ⊎ Written mostRuns offset bytes time s c o) o
+    r = write-accepted object offset bytes time s e
 
     news : List File
     news = change object (overwrite offset (take mostTransfer bytes)) files
 
-    go : ((length bytes ≡ 0) × (o ≡ accept 0 s [])) ⊎ Written mostRuns offset bytes seconds nanoseconds s (r .card) o → Inv (if eqb (length bytes) 0 then files else news) reserved (result s [] o .store)
+    go : ((length bytes ≡ 0) × (o ≡ accept 0 s [])) ⊎ Written mostRuns offset bytes time s (r .card) o → Inv (if eqb (length bytes) 0 then files else news) reserved (result s [] o .store)
     go (inl z) = rw (if-true (eqb (length bytes) 0) files news (eq-eqb (length bytes) 0 (z .0)), z .1) (unfold result in h)
-    go (inr w) = rw (if-false (eqb (length bytes) 0) files news (ne-eqb (length bytes) 0 (w .some))) (write-done files reserved s h object (r .card) (r .known) offset bytes seconds nanoseconds o (i .2) w)
+    go (inr w) = rw (if-false (eqb (length bytes) 0) files news (ne-eqb (length bytes) 0 (w .some))) (write-done files reserved s h object (r .card) (r .known) offset bytes time o (i .2) w)
 
 -- and so does a grow
-grow-keeps : (object size seconds nanoseconds : ℕ) (files : List File) (reserved : ℕ) (s : Store)
-    → InRange (grow object size seconds nanoseconds) → call (grow object size seconds nanoseconds) s .number ≡ 0 → Inv files reserved s
-    → Inv (accepted (grow object size seconds nanoseconds) files) reserved (call (grow object size seconds nanoseconds) s .store)
+grow-keeps : (object size : ℕ) (time : Time) (files : List File) (reserved : ℕ) (s : Store)
+    → InRange (grow object size time) → call (grow object size time) s .number ≡ 0 → Inv files reserved s
+    → Inv (accepted (grow object size time) files) reserved (call (grow object size time) s .store)
 unfolding call lentOut accepted
-grow-keeps object size seconds nanoseconds files reserved s i e h = go (r .done)
+grow-keeps object size time files reserved s i e h = go (r .done)
   where
     o : Outcome
-    o = outcome (grow object size seconds nanoseconds) s
+    o = outcome (grow object size time) s
 
-    r : FileCall s object (λ c o. ((size ≡ c .size) × (o ≡ accept 0 s [])) ⊎ Grown size seconds nanoseconds s c o) o
-    r = grow-accepted object size seconds nanoseconds s e
+    r : FileCall s object (λ c o. ((size ≡ c .size) × (o ≡ accept 0 s [])) ⊎ Grown size time s c o) o
+    r = grow-accepted object size time s e
 
-    go : ((size ≡ r .card .size) × (o ≡ accept 0 s [])) ⊎ Grown size seconds nanoseconds s (r .card) o → Inv (change object (padded size) files) reserved (result s [] o .store)
+    go : ((size ≡ r .card .size) × (o ≡ accept 0 s [])) ⊎ Grown size time s (r .card) o → Inv (change object (padded size) files) reserved (result s [] o .store)
     go (inl z) = rw (z .1) (unfold result in inv-same files (change object (padded size) files) reserved s (λ n. grow-none files reserved s h object (r .card) (r .known) size (z .0) n (ℕ-discrete n object)) h)
-    go (inr w) = grow-done files reserved s h object (r .card) (r .known) size seconds nanoseconds o w
+    go (inr w) = grow-done files reserved s h object (r .card) (r .known) size time o w
 
 -- both, as `Invariant` asks for them
 pub changes : ChangesRight
 changes = record {
   writeKeeps = write-keeps;
   growKeeps = grow-keeps;
-  writeNever = λ object offset bytes seconds nanoseconds files reserved s i h. never-write s (h .passes) object offset bytes seconds nanoseconds
+  writeNever = λ object offset bytes time files reserved s i h. never-write s (h .passes) object offset bytes time
       (λ card e n l t. never-plan h (write-change files reserved s h object card e offset bytes n) mostRuns);
-  growNever = λ object size seconds nanoseconds files reserved s i h. never-grow s (h .passes) object size seconds nanoseconds
+  growNever = λ object size time files reserved s i h. never-grow s (h .passes) object size time
       (λ card e m l t. never-plan h (grow-change files reserved s h object card e size m) mostRuns);
 }

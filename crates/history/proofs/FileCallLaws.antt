@@ -10,6 +10,7 @@ use native.Mathlib.Omega.{arith}
 use lib.Dec.{eqb}
 use lib.ListN.{length, drop}
 use borrow.Author.Tests.{eqb-true, eqb-false, ltb-false}
+use Rattle.rules.specs.Time.{Time}
 use Rattle.rules.specs.Integrity.{storeCases}
 use Rattle.rules.specs.Book.{bookPlaces}
 use Rattle.rules.specs.Lists.{any, member}
@@ -31,7 +32,8 @@ use Rattle.rules.specs.Write.{groupsFull, extentsFull, fitCases, carriedOut, ch
 use Rattle.rules.specs.Read.{Checked, readLength, checkUnits, handOut, readUnits, readFile, readOutcome}
 use Rattle.rules.specs.Read.Checked.{failed, bytes}
 use Rattle.rules.specs.Call.{call, lentOut, outcome}
-use Rattle.rules.specs.Call.Call.{read, write, grow}
+use Rattle.rules.specs.Call.Look.{read}
+use Rattle.rules.specs.Call.Call.{write, grow, look}
 use Rattle.rules.specs.Demand.{neverNumbers}
 use Rattle.rules.proofs.ListLaws.{if-cases, maybe-cases, each-none, each-more}
 use Rattle.rules.proofs.PassLaws.{Passes}
@@ -86,21 +88,21 @@ read-file offset out s c =
     inr (record { found = h .0; some = eqb-false n 0 q; checked = h .1; done = h .2 }))
 
 -- the planned units were carried out: the finished books fit, and the finished volume is what the buffers say
-pub record Carried (answer : ℕ) (c : Change) (seconds nanoseconds : ℕ) (s : Store) (k : Plan) (o : Outcome) : Type 0 where
+pub record Carried (answer : ℕ) (c : Change) (time : Time) (s : Store) (k : Plan) (o : Outcome) : Type 0 where
   pub units : List Rewritten
   pub progress : Progress
   pub plan : k ≡ planned units progress
-  pub groups : length (finished c seconds nanoseconds units progress (decode s) .books .groups) ≤ bookPlaces groupBytes (s .groups)
-  pub extents : length (finished c seconds nanoseconds units progress (decode s) .books .extents) ≤ bookPlaces extentBytes (s .extents)
-  pub done : o ≡ accept answer (encodeInto s (finished c seconds nanoseconds units progress (decode s))) []
+  pub groups : length (finished c time units progress (decode s) .books .groups) ≤ bookPlaces groupBytes (s .groups)
+  pub extents : length (finished c time units progress (decode s) .books .extents) ≤ bookPlaces extentBytes (s .extents)
+  pub done : o ≡ accept answer (encodeInto s (finished c time units progress (decode s))) []
 
 -- so it is with an accepted change
-carried : (answer : ℕ) (c : Change) (seconds nanoseconds : ℕ) (s : Store) (k : Plan) → result s [] (carriedOut answer c seconds nanoseconds s k) .number ≡ 0
-    → Carried answer c seconds nanoseconds s k (carriedOut answer c seconds nanoseconds s k)
+carried : (answer : ℕ) (c : Change) (time : Time) (s : Store) (k : Plan) → result s [] (carriedOut answer c time s k) .number ≡ 0
+    → Carried answer c time s k (carriedOut answer c time s k)
 unfolding carriedOut fitCases groupsFull extentsFull
-carried answer c seconds nanoseconds s (refused r) e = absurd (never-zero s [] r e)
-carried answer c seconds nanoseconds s (planned rs p) e =
-    let v : Volume = finished c seconds nanoseconds rs p (decode s) in
+carried answer c time s (refused r) e = absurd (never-zero s [] r e)
+carried answer c time s (planned rs p) e =
+    let v : Volume = finished c time rs p (decode s) in
     let t = through s [] (fitCases v s) (accept answer (encodeInto s v) []) e in
     record {
       units = rs;
@@ -116,80 +118,80 @@ abbrev pub planOf : ℕ → (Change → List ℕ) → Change → Card → Store 
 planOf limit units c card s = rewriteUnits limit (decode s) c (units c) (record { taken = []; hint = decode s .hint; allocated = card .allocated })
 
 -- a write that is not empty was carried out
-pub record Written (limit offset : ℕ) (xs : List ℕ) (seconds nanoseconds : ℕ) (s : Store) (c : Card) (o : Outcome) : Type 0 where
+pub record Written (limit offset : ℕ) (xs : List ℕ) (time : Time) (s : Store) (c : Card) (o : Outcome) : Type 0 where
   pub some : length xs ≡ 0 → ⊥
   pub end : offset + length (clipped xs) ≤ mostSize
-  pub time : TimeRight seconds nanoseconds
-  pub carried : Carried (length (clipped xs)) (writeChange (c .object) (c .size) offset xs) seconds nanoseconds s
+  pub time : TimeRight time
+  pub carried : Carried (length (clipped xs)) (writeChange (c .object) (c .size) offset xs) time s
       (planOf limit writeUnits (writeChange (c .object) (c .size) offset xs) c s) o
 
 -- an accepted write of a file
-pub write-file : (limit offset : ℕ) (xs : List ℕ) (seconds nanoseconds : ℕ) (s : Store) (c : Card)
-    → result s [] (writeFile limit offset xs seconds nanoseconds s c) .number ≡ 0
-    → ((length xs ≡ 0) × (writeFile limit offset xs seconds nanoseconds s c ≡ accept 0 s []))
-    ⊎ Written limit offset xs seconds nanoseconds s c (writeFile limit offset xs seconds nanoseconds s c)
+pub write-file : (limit offset : ℕ) (xs : List ℕ) (time : Time) (s : Store) (c : Card)
+    → result s [] (writeFile limit offset xs time s c) .number ≡ 0
+    → ((length xs ≡ 0) × (writeFile limit offset xs time s c ≡ accept 0 s []))
+    ⊎ Written limit offset xs time s c (writeFile limit offset xs time s c)
 unfolding writeFile changed pastLimit
-write-file limit offset xs seconds nanoseconds s c =
+write-file limit offset xs time s c =
     let w : Change = writeChange (c .object) (c .size) offset xs in
     let k : Plan = planOf limit writeUnits w c s in
-    let D : Outcome → Type 0 = λ o. ((length xs ≡ 0) × (o ≡ accept 0 s [])) ⊎ Written limit offset xs seconds nanoseconds s c o in
+    let D : Outcome → Type 0 = λ o. ((length xs ≡ 0) × (o ≡ accept 0 s [])) ⊎ Written limit offset xs time s c o in
     if-cases (λ o. result s [] o .number ≡ 0 → D o) (eqb (length xs) 0) (accept 0 s []) _
     (λ q e. inl (eqb-true (length xs) 0 q, refl))
-    (λ q. accepted-cases s [] D _ (carriedOut (length (clipped xs)) w seconds nanoseconds s k)
+    (λ q. accepted-cases s [] D _ (carriedOut (length (clipped xs)) w time s k)
     (λ n e. inr (record {
       some = eqb-false (length xs) 0 q;
       end = ltb-false mostSize (offset + length (clipped xs)) (n .0);
-      time = time-right seconds nanoseconds (n .1 .0);
-      carried = carried (length (clipped xs)) w seconds nanoseconds s k e;
+      time = time-right time (n .1 .0);
+      carried = carried (length (clipped xs)) w time s k e;
     })))
 
 -- a grow that changes the size was carried out
-pub record Grown (size seconds nanoseconds : ℕ) (s : Store) (c : Card) (o : Outcome) : Type 0 where
+pub record Grown (size : ℕ) (time : Time) (s : Store) (c : Card) (o : Outcome) : Type 0 where
   pub more : c .size < size
   pub end : size ≤ mostSize
-  pub time : TimeRight seconds nanoseconds
-  pub carried : Carried 0 (growChange (c .object) (c .size) size) seconds nanoseconds s (planOf mostRuns growUnits (growChange (c .object) (c .size) size) c s) o
+  pub time : TimeRight time
+  pub carried : Carried 0 (growChange (c .object) (c .size) size) time s (planOf mostRuns growUnits (growChange (c .object) (c .size) size) c s) o
 
 -- an accepted grow of a file
-pub grow-file : (size seconds nanoseconds : ℕ) (s : Store) (c : Card) → result s [] (growFile size seconds nanoseconds s c) .number ≡ 0
-    → ((size ≡ c .size) × (growFile size seconds nanoseconds s c ≡ accept 0 s [])) ⊎ Grown size seconds nanoseconds s c (growFile size seconds nanoseconds s c)
+pub grow-file : (size : ℕ) (time : Time) (s : Store) (c : Card) → result s [] (growFile size time s c) .number ≡ 0
+    → ((size ≡ c .size) × (growFile size time s c ≡ accept 0 s [])) ⊎ Grown size time s c (growFile size time s c)
 unfolding growFile changed pastLimit belowSize
-grow-file size seconds nanoseconds s c =
+grow-file size time s c =
     let w : Change = growChange (c .object) (c .size) size in
     let k : Plan = planOf mostRuns growUnits w c s in
-    let D : Outcome → Type 0 = λ o. ((size ≡ c .size) × (o ≡ accept 0 s [])) ⊎ Grown size seconds nanoseconds s c o in
+    let D : Outcome → Type 0 = λ o. ((size ≡ c .size) × (o ≡ accept 0 s [])) ⊎ Grown size time s c o in
     accepted-cases s [] D _ _
     (λ m. if-cases (λ o. result s [] o .number ≡ 0 → D o) (eqb size (c .size)) (accept 0 s []) _
     (λ q e. inl (eqb-true size (c .size) q, refl))
-    (λ q. accepted-cases s [] D _ (carriedOut 0 w seconds nanoseconds s k)
+    (λ q. accepted-cases s [] D _ (carriedOut 0 w time s k)
     (λ n e.
     let d : size ≡ c .size → ⊥ = eqb-false size (c .size) q in
     let l : c .size ≤ size = ltb-false size (c .size) (m .1 .0) in
     inr (record {
       more = omega arith;
       end = ltb-false mostSize size (m .0);
-      time = time-right seconds nanoseconds (n .0);
-      carried = carried 0 w seconds nanoseconds s k e;
+      time = time-right time (n .0);
+      carried = carried 0 w time s k e;
     }))))
 
 -- an accepted read
-pub read-accepted : (object offset : ℕ) (out : List ℕ) (s : Store) → call (read object offset out) s .number ≡ 0
-    → FileCall s object (λ c o. ((readLength (c .size) offset (length out) ≡ 0) × (o ≡ accept 0 s out)) ⊎ ReadBytes offset out s c o) (outcome (read object offset out) s)
+pub read-accepted : (object offset : ℕ) (out : List ℕ) (s : Store) → call (look (read object offset out)) s .number ≡ 0
+    → FileCall s object (λ c o. ((readLength (c .size) offset (length out) ≡ 0) × (o ≡ accept 0 s out)) ⊎ ReadBytes offset out s c o) (outcome (look (read object offset out)) s)
 unfolding call outcome lentOut readOutcome
 read-accepted object offset out s = file-call s out object (readFile offset s out) _ (read-file offset out s)
 
 -- an accepted write
-pub write-accepted : (object offset : ℕ) (xs : List ℕ) (seconds nanoseconds : ℕ) (s : Store) → call (write object offset xs seconds nanoseconds) s .number ≡ 0
-    → FileCall s object (λ c o. ((length xs ≡ 0) × (o ≡ accept 0 s [])) ⊎ Written mostRuns offset xs seconds nanoseconds s c o) (outcome (write object offset xs seconds nanoseconds) s)
+pub write-accepted : (object offset : ℕ) (xs : List ℕ) (time : Time) (s : Store) → call (write object offset xs time) s .number ≡ 0
+    → FileCall s object (λ c o. ((length xs ≡ 0) × (o ≡ accept 0 s [])) ⊎ Written mostRuns offset xs time s c o) (outcome (write object offset xs time) s)
 unfolding call outcome lentOut writeOutcome
-write-accepted object offset xs seconds nanoseconds s =
-    file-call s [] object (writeFile mostRuns offset xs seconds nanoseconds s) _ (write-file mostRuns offset xs seconds nanoseconds s)
+write-accepted object offset xs time s =
+    file-call s [] object (writeFile mostRuns offset xs time s) _ (write-file mostRuns offset xs time s)
 
 -- an accepted grow
-pub grow-accepted : (object size seconds nanoseconds : ℕ) (s : Store) → call (grow object size seconds nanoseconds) s .number ≡ 0
-    → FileCall s object (λ c o. ((size ≡ c .size) × (o ≡ accept 0 s [])) ⊎ Grown size seconds nanoseconds s c o) (outcome (grow object size seconds nanoseconds) s)
+pub grow-accepted : (object size : ℕ) (time : Time) (s : Store) → call (grow object size time) s .number ≡ 0
+    → FileCall s object (λ c o. ((size ≡ c .size) × (o ≡ accept 0 s [])) ⊎ Grown size time s c o) (outcome (grow object size time) s)
 unfolding call outcome lentOut growOutcome
-grow-accepted object size seconds nanoseconds s = file-call s [] object (growFile size seconds nanoseconds s) _ (grow-file size seconds nanoseconds s)
+grow-accepted object size time s = file-call s [] object (growFile size time s) _ (grow-file size time s)
 
 -- ---- refusals that never come
 
@@ -207,18 +209,18 @@ never-hand from n s out (failed r) h = absurd (h r refl)
 never-hand from n s out (bytes xs) h = refl
 
 -- of a plan: no unit is refused with them
-never-carried : (answer : ℕ) (c : Change) (seconds nanoseconds : ℕ) (s : Store) (k : Plan) → ((r : Refusal) → k ≡ refused r → member (numberOf r) neverNumbers ≡ false)
-    → Never s [] (carriedOut answer c seconds nanoseconds s k)
+never-carried : (answer : ℕ) (c : Change) (time : Time) (s : Store) (k : Plan) → ((r : Refusal) → k ≡ refused r → member (numberOf r) neverNumbers ≡ false)
+    → Never s [] (carriedOut answer c time s k)
 unfolding carriedOut fitCases result numberOf member any
-never-carried answer c seconds nanoseconds s (refused r) h = h r refl
-never-carried answer c seconds nanoseconds s (planned rs p) h = firstOf-cases (Never s []) _ (each-more (λ e. refl) (each-more (λ e. refl) each-none)) (λ n. refl)
+never-carried answer c time s (refused r) h = h r refl
+never-carried answer c time s (planned rs p) h = firstOf-cases (Never s []) _ (each-more (λ e. refl) (each-more (λ e. refl) each-none)) (λ n. refl)
 
 module _ (s : Store) (p : Passes s) where
   -- read: no unit that it checks fails
   pub never-read : (object offset : ℕ) (out : List ℕ)
       → ((c : Card) → cardOf (decode s) object ≡ some c → (readLength (c .size) offset (length out) ≡ 0 → ⊥)
       → (r : Refusal) → checkUnits (decode s) (c .object) (c .size) (unitsOf offset (offset + readLength (c .size) offset (length out))) ≡ failed r → ⊥)
-      → member (call (read object offset out) s .number) neverNumbers ≡ false
+      → member (call (look (read object offset out)) s .number) neverNumbers ≡ false
   unfolding call outcome lentOut readOutcome readFile readUnits result member any
   never-read object offset out h =
       never-file s out object (readFile offset s out) p (λ c q.
@@ -226,31 +228,31 @@ module _ (s : Store) (p : Passes s) where
       (λ z. refl) (λ z. never-hand _ _ s out _ (h c q (eqb-false (readLength (c .size) offset (length out)) 0 z))))
 
   -- write: no unit of its plan is refused with them
-  pub never-write : (object offset : ℕ) (xs : List ℕ) (seconds nanoseconds : ℕ)
-      → ((c : Card) → cardOf (decode s) object ≡ some c → (length xs ≡ 0 → ⊥) → offset + length (clipped xs) ≤ mostSize → TimeRight seconds nanoseconds
+  pub never-write : (object offset : ℕ) (xs : List ℕ) (time : Time)
+      → ((c : Card) → cardOf (decode s) object ≡ some c → (length xs ≡ 0 → ⊥) → offset + length (clipped xs) ≤ mostSize → TimeRight time
       → (r : Refusal) → planOf mostRuns writeUnits (writeChange (c .object) (c .size) offset xs) c s ≡ refused r → member (numberOf r) neverNumbers ≡ false)
-      → member (call (write object offset xs seconds nanoseconds) s .number) neverNumbers ≡ false
+      → member (call (write object offset xs time) s .number) neverNumbers ≡ false
   unfolding call outcome lentOut writeOutcome writeFile changed pastLimit result numberOf member any
-  never-write object offset xs seconds nanoseconds h =
-      never-file s [] object (writeFile mostRuns offset xs seconds nanoseconds s) p (λ c q.
+  never-write object offset xs time h =
+      never-file s [] object (writeFile mostRuns offset xs time s) p (λ c q.
       if-cases (Never s []) (eqb (length xs) 0) (accept 0 s []) _ (λ z. refl)
       (λ z. firstOf-cases (Never s []) _ (each-more (λ e. refl) (each-more (λ e. refl) each-none))
-      (λ n. never-carried (length (clipped xs)) (writeChange (c .object) (c .size) offset xs) seconds nanoseconds s _
-      (h c q (eqb-false (length xs) 0 z) (ltb-false mostSize (offset + length (clipped xs)) (n .0)) (time-right seconds nanoseconds (n .1 .0))))))
+      (λ n. never-carried (length (clipped xs)) (writeChange (c .object) (c .size) offset xs) time s _
+      (h c q (eqb-false (length xs) 0 z) (ltb-false mostSize (offset + length (clipped xs)) (n .0)) (time-right time (n .1 .0))))))
 
   -- grow: so too
-  pub never-grow : (object size seconds nanoseconds : ℕ)
-      → ((c : Card) → cardOf (decode s) object ≡ some c → c .size < size → size ≤ mostSize → TimeRight seconds nanoseconds
+  pub never-grow : (object size : ℕ) (time : Time)
+      → ((c : Card) → cardOf (decode s) object ≡ some c → c .size < size → size ≤ mostSize → TimeRight time
       → (r : Refusal) → planOf mostRuns growUnits (growChange (c .object) (c .size) size) c s ≡ refused r → member (numberOf r) neverNumbers ≡ false)
-      → member (call (grow object size seconds nanoseconds) s .number) neverNumbers ≡ false
+      → member (call (grow object size time) s .number) neverNumbers ≡ false
   unfolding call outcome lentOut growOutcome growFile changed pastLimit belowSize result numberOf member any
-  never-grow object size seconds nanoseconds h =
-      never-file s [] object (growFile size seconds nanoseconds s) p (λ c q.
+  never-grow object size time h =
+      never-file s [] object (growFile size time s) p (λ c q.
       firstOf-cases (Never s []) _ (each-more (λ e. refl) (each-more (λ e. refl) each-none))
       (λ m. if-cases (Never s []) (eqb size (c .size)) (accept 0 s []) _ (λ z. refl)
       (λ z. firstOf-cases (Never s []) _ (each-more (λ e. refl) each-none)
       (λ n.
       let d : size ≡ c .size → ⊥ = eqb-false size (c .size) z in
       let l : c .size ≤ size = ltb-false size (c .size) (m .1 .0) in
-      never-carried 0 (growChange (c .object) (c .size) size) seconds nanoseconds s _
-      (h c q (omega arith) (ltb-false mostSize size (m .0)) (time-right seconds nanoseconds (n .0)))))))
+      never-carried 0 (growChange (c .object) (c .size) size) time s _
+      (h c q (omega arith) (ltb-false mostSize size (m .0)) (time-right time (n .0)))))))

@@ -10,6 +10,7 @@ use Prim.Native.Nat.{ℕ, _+_}
 use native.Mathlib.Omega.{arith}
 use lib.Dec.{ltb}
 use borrow.Author.Tests.{eq-eqb, ne-eqb}
+use Rattle.rules.specs.Time.{Time}
 use Rattle.rules.specs.Arguments.{withCard}
 use Rattle.rules.specs.Integrity.{storeCases}
 use Rattle.rules.specs.Lists.{if_then_else_, any, filter, count, find, member}
@@ -25,7 +26,8 @@ use Rattle.rules.specs.Write.{writeFile, writeOutcome, growFile, growOutcome}
 use Rattle.rules.specs.Read.{readFile, readOutcome}
 use Rattle.rules.specs.Settle.{settleOutcome, fillOutcome}
 use Rattle.rules.specs.Call.{Call, InRange, call, lentOut, outcome}
-use Rattle.rules.specs.Call.Call.{fresh, enter, write, grow, read, settle, fill}
+use Rattle.rules.specs.Call.Look.{read, fill}
+use Rattle.rules.specs.Call.Call.{fresh, enter, write, grow, settle, look}
 use Rattle.rules.specs.Plain.{Fed, File, accepted, step, plain}
 use Rattle.rules.specs.Demand.{run, wasRefused, fed, givenReserved, lastReserved, AllInRange, places, holders, neverNumbers, Sound, Demand3}
 use Rattle.rules.specs.Demand.AllInRange.{none as no-call, one as one-call}
@@ -137,9 +139,9 @@ never-fresh uuid reserved s = firstOf-cases (Never s []) _ (each-more (λ h. ref
 
 module _ (s : Store) (p : Passes s) where
   -- enter
-  pub never-enter : (object seconds nanoseconds : ℕ) → member (call (enter object seconds nanoseconds) s .number) neverNumbers ≡ false
+  pub never-enter : (object : ℕ) (time : Time) → member (call (enter object time) s .number) neverNumbers ≡ false
   unfolding call outcome lentOut enterOutcome enterCases result numberOf member any
-  never-enter object seconds nanoseconds =
+  never-enter object time =
       firstOf-cases (Never s []) _
       (each-more (λ h. refl) (each-more (λ h. absurd (clash (p .rules) h)) (each-more (λ h. refl) (each-more (λ h. refl) (each-more (λ h. refl) each-none))))) (λ n. refl)
 
@@ -149,7 +151,7 @@ module _ (s : Store) (p : Passes s) where
   settle-number = ap (λ o. result s [] o .number) (goes-on s _ p)
 
   -- and so is fill
-  pub fill-number : call fill s .number ≡ 0
+  pub fill-number : call (look fill) s .number ≡ 0
   unfolding call outcome lentOut fillOutcome result
   fill-number = ap (λ o. result s [] o .number) (goes-on s _ p)
 
@@ -160,28 +162,28 @@ module _ (s : Store) (p : Passes s) where
       ap (λ o. result s out o .number) (goes-on s (withCard (decode s) object next) p ∙ maybe-none (refuse no-card) next (cardOf (decode s) object) e)
 
   -- read
-  pub no-card-read : (object offset : ℕ) (out : List ℕ) → cardOf (decode s) object ≡ none → call (read object offset out) s .number ≡ 3
+  pub no-card-read : (object offset : ℕ) (out : List ℕ) → cardOf (decode s) object ≡ none → call (look (read object offset out)) s .number ≡ 3
   unfolding call outcome lentOut readOutcome
   no-card-read object offset out e = no-card-number out object (readFile offset s out) e
 
   -- write
-  pub no-card-write : (object offset : ℕ) (bytes : List ℕ) (seconds nanoseconds : ℕ) → cardOf (decode s) object ≡ none
-      → call (write object offset bytes seconds nanoseconds) s .number ≡ 3
+  pub no-card-write : (object offset : ℕ) (bytes : List ℕ) (time : Time) → cardOf (decode s) object ≡ none
+      → call (write object offset bytes time) s .number ≡ 3
   unfolding call outcome lentOut writeOutcome
-  no-card-write object offset bytes seconds nanoseconds e = no-card-number [] object (writeFile mostRuns offset bytes seconds nanoseconds s) e
+  no-card-write object offset bytes time e = no-card-number [] object (writeFile mostRuns offset bytes time s) e
 
   -- grow
-  pub no-card-grow : (object size seconds nanoseconds : ℕ) → cardOf (decode s) object ≡ none → call (grow object size seconds nanoseconds) s .number ≡ 3
+  pub no-card-grow : (object size : ℕ) (time : Time) → cardOf (decode s) object ≡ none → call (grow object size time) s .number ≡ 3
   unfolding call outcome lentOut growOutcome
-  no-card-grow object size seconds nanoseconds e = no-card-number [] object (growFile size seconds nanoseconds s) e
+  no-card-grow object size time e = no-card-number [] object (growFile size time s) e
 
   -- on a store with no card nothing is refused with those numbers
   pub never-cardless : ((object : ℕ) → cardOf (decode s) object ≡ none) → (c : Call) → member (call c s .number) neverNumbers ≡ false
   unfolding member any
   never-cardless h (fresh uuid reserved) = never-fresh uuid reserved s
-  never-cardless h (enter object seconds nanoseconds) = never-enter object seconds nanoseconds
-  never-cardless h (write object offset bytes seconds nanoseconds) = ap (λ n. member n neverNumbers) (no-card-write object offset bytes seconds nanoseconds (h object))
-  never-cardless h (grow object size seconds nanoseconds) = ap (λ n. member n neverNumbers) (no-card-grow object size seconds nanoseconds (h object))
+  never-cardless h (enter object time) = never-enter object time
+  never-cardless h (write object offset bytes time) = ap (λ n. member n neverNumbers) (no-card-write object offset bytes time (h object))
+  never-cardless h (grow object size time) = ap (λ n. member n neverNumbers) (no-card-grow object size time (h object))
   never-cardless h (read object offset out) = ap (λ n. member n neverNumbers) (no-card-read object offset out (h object))
   never-cardless h settle = ap (λ n. member n neverNumbers) settle-number
   never-cardless h fill = ap (λ n. member n neverNumbers) fill-number

@@ -11,6 +11,7 @@ use native.Mathlib.Omega.{arith}
 use lib.Dec.{eqb}
 use lib.ListN.{length}
 use borrow.Author.Tests.{eq-eqb, ne-eqb}
+use Rattle.rules.specs.Time.{Time}
 use Rattle.rules.specs.Lists.{maybe, given, any, find, filter, member}
 use Rattle.rules.specs.Sizes.{unitBytes}
 use Rattle.rules.specs.Card.{Card}
@@ -20,7 +21,8 @@ use Rattle.rules.specs.Fresh.{freshVolume}
 use Rattle.rules.specs.Enter.{newCard, entered}
 use Rattle.rules.specs.Settle.{settled}
 use Rattle.rules.specs.Call.{Call, InRange, call}
-use Rattle.rules.specs.Call.Call.{fresh, enter, write, grow, read, settle, fill}
+use Rattle.rules.specs.Call.Look.{read, fill}
+use Rattle.rules.specs.Call.Call.{fresh, enter, write, grow, settle, look}
 use Rattle.rules.specs.Plain.{File, accepted, fileBytes}
 use Rattle.rules.specs.Demand.{givenReserved, holders, filePlaces, neverNumbers, PlainAnswer, Sound, Demand3}
 use Rattle.rules.proofs.ListLaws.{given-some, maybe-some, find-yes, find-no, find-none}
@@ -159,13 +161,13 @@ pub inv-fresh : (s : Store) → StoreBytes s → (uuid : List ℕ) (reserved : �
 inv-fresh s b uuid reserved i e = inv-says [] reserved _ (freshVolume uuid reserved s) (fresh-says s b uuid reserved i e) (fresh-agrees uuid reserved s)
 
 -- enter keeps it
-pub inv-enter : (object seconds nanoseconds : ℕ) (files : List File) (reserved : ℕ) (s : Store) → InRange (enter object seconds nanoseconds)
-    → call (enter object seconds nanoseconds) s .number ≡ 0 → Inv files reserved s → Inv (record { object = object; bytes = [] } ∷ files) reserved (call (enter object seconds nanoseconds) s .store)
+pub inv-enter : (object : ℕ) (time : Time) (files : List File) (reserved : ℕ) (s : Store) → InRange (enter object time)
+    → call (enter object time) s .number ≡ 0 → Inv files reserved s → Inv (record { object = object; bytes = [] } ∷ files) reserved (call (enter object time) s .store)
 unfolding newCard newFile
-inv-enter object seconds nanoseconds files reserved s i e h =
-    let c : Card = newCard object seconds nanoseconds in
-    inv-says _ reserved _ (entered c (decode s)) (enter-says s (h .bytes) object seconds nanoseconds i e)
-    (entered-agrees files reserved c (decode s) (enter-accepted object seconds nanoseconds s e .new) refl refl (lawful-decode s (h .passes)) (h .agrees))
+inv-enter object time files reserved s i e h =
+    let c : Card = newCard object time in
+    inv-says _ reserved _ (entered c (decode s)) (enter-says s (h .bytes) object time i e)
+    (entered-agrees files reserved c (decode s) (enter-accepted object time s e .new) refl refl (lawful-decode s (h .passes)) (h .agrees))
 
 -- settle keeps it
 pub inv-settle : (files : List File) (reserved : ℕ) (s : Store) → call settle s .number ≡ 0 → Inv files reserved s → Inv files reserved (call settle s .store)
@@ -182,25 +184,25 @@ known-object files reserved s h object c q = given-some (fileBytes files object)
 
 -- no read is refused with "2, 9 to 12 and 14"
 never-inv-read : (files : List File) (reserved : ℕ) (s : Store) → Inv files reserved s → (object offset : ℕ) (out : List ℕ)
-    → member (call (read object offset out) s .number) neverNumbers ≡ false
+    → member (call (look (read object offset out)) s .number) neverNumbers ≡ false
 never-inv-read files reserved s h object offset out = go (fileBytes files object) refl
   where
-    go : (o : Option (List ℕ)) → fileBytes files object ≡ o → member (call (read object offset out) s .number) neverNumbers ≡ false
+    go : (o : Option (List ℕ)) → fileBytes files object ≡ o → member (call (look (read object offset out)) s .number) neverNumbers ≡ false
     go none e = read-never s object [] (λ c q. absurd (let k = known-object files reserved s h object c q in Option·none-ne-some (k .0) (sym e ∙ k .1))) offset out (h .passes)
     go (some xs) e = read-never s object xs (h .agrees .bytes object xs e) offset out (h .passes)
 
 -- what is left to show of write and grow
 pub record ChangesRight : Type 0 where
-  pub writeKeeps : (object offset : ℕ) (bytes : List ℕ) (seconds nanoseconds : ℕ) (files : List File) (reserved : ℕ) (s : Store)
-      → InRange (write object offset bytes seconds nanoseconds) → call (write object offset bytes seconds nanoseconds) s .number ≡ 0 → Inv files reserved s
-      → Inv (accepted (write object offset bytes seconds nanoseconds) files) reserved (call (write object offset bytes seconds nanoseconds) s .store)
-  pub growKeeps : (object size seconds nanoseconds : ℕ) (files : List File) (reserved : ℕ) (s : Store)
-      → InRange (grow object size seconds nanoseconds) → call (grow object size seconds nanoseconds) s .number ≡ 0 → Inv files reserved s
-      → Inv (accepted (grow object size seconds nanoseconds) files) reserved (call (grow object size seconds nanoseconds) s .store)
-  pub writeNever : (object offset : ℕ) (bytes : List ℕ) (seconds nanoseconds : ℕ) (files : List File) (reserved : ℕ) (s : Store)
-      → InRange (write object offset bytes seconds nanoseconds) → Inv files reserved s → member (call (write object offset bytes seconds nanoseconds) s .number) neverNumbers ≡ false
-  pub growNever : (object size seconds nanoseconds : ℕ) (files : List File) (reserved : ℕ) (s : Store)
-      → InRange (grow object size seconds nanoseconds) → Inv files reserved s → member (call (grow object size seconds nanoseconds) s .number) neverNumbers ≡ false
+  pub writeKeeps : (object offset : ℕ) (bytes : List ℕ) (time : Time) (files : List File) (reserved : ℕ) (s : Store)
+      → InRange (write object offset bytes time) → call (write object offset bytes time) s .number ≡ 0 → Inv files reserved s
+      → Inv (accepted (write object offset bytes time) files) reserved (call (write object offset bytes time) s .store)
+  pub growKeeps : (object size : ℕ) (time : Time) (files : List File) (reserved : ℕ) (s : Store)
+      → InRange (grow object size time) → call (grow object size time) s .number ≡ 0 → Inv files reserved s
+      → Inv (accepted (grow object size time) files) reserved (call (grow object size time) s .store)
+  pub writeNever : (object offset : ℕ) (bytes : List ℕ) (time : Time) (files : List File) (reserved : ℕ) (s : Store)
+      → InRange (write object offset bytes time) → Inv files reserved s → member (call (write object offset bytes time) s .number) neverNumbers ≡ false
+  pub growNever : (object size : ℕ) (time : Time) (files : List File) (reserved : ℕ) (s : Store)
+      → InRange (grow object size time) → Inv files reserved s → member (call (grow object size time) s .number) neverNumbers ≡ false
 
 module _ (w : ChangesRight) where
   -- every accepted call keeps it
@@ -208,9 +210,9 @@ module _ (w : ChangesRight) where
       → Inv (accepted c files) (givenReserved c reserved) (call c s .store)
   unfolding accepted givenReserved
   keeps (fresh uuid n) files reserved s i e h = inv-fresh s (h .bytes) uuid n i e
-  keeps (enter object seconds nanoseconds) files reserved s i e h = inv-enter object seconds nanoseconds files reserved s i e h
-  keeps (write object offset bytes seconds nanoseconds) files reserved s i e h = w .writeKeeps object offset bytes seconds nanoseconds files reserved s i e h
-  keeps (grow object size seconds nanoseconds) files reserved s i e h = w .growKeeps object size seconds nanoseconds files reserved s i e h
+  keeps (enter object time) files reserved s i e h = inv-enter object time files reserved s i e h
+  keeps (write object offset bytes time) files reserved s i e h = w .writeKeeps object offset bytes time files reserved s i e h
+  keeps (grow object size time) files reserved s i e h = w .growKeeps object size time files reserved s i e h
   keeps (read object offset out) files reserved s i e h = rw (read-stays object offset out s) h
   keeps settle files reserved s i e h = inv-settle files reserved s e h
   keeps fill files reserved s i e h = rw (fill-stays s) h
@@ -219,9 +221,9 @@ module _ (w : ChangesRight) where
   never-refused : (files : List File) (reserved : ℕ) (s : Store) → Inv files reserved s → (c : Call) → InRange c → member (call c s .number) neverNumbers ≡ false
   unfolding member any
   never-refused files reserved s h (fresh uuid n) i = never-fresh uuid n s
-  never-refused files reserved s h (enter object seconds nanoseconds) i = never-enter s (h .passes) object seconds nanoseconds
-  never-refused files reserved s h (write object offset bytes seconds nanoseconds) i = w .writeNever object offset bytes seconds nanoseconds files reserved s i h
-  never-refused files reserved s h (grow object size seconds nanoseconds) i = w .growNever object size seconds nanoseconds files reserved s i h
+  never-refused files reserved s h (enter object time) i = never-enter s (h .passes) object time
+  never-refused files reserved s h (write object offset bytes time) i = w .writeNever object offset bytes time files reserved s i h
+  never-refused files reserved s h (grow object size time) i = w .growNever object size time files reserved s i h
   never-refused files reserved s h (read object offset out) i = never-inv-read files reserved s h object offset out
   never-refused files reserved s h settle i = ap (λ n. member n neverNumbers) (settle-number s (h .passes))
   never-refused files reserved s h fill i = ap (λ n. member n neverNumbers) (fill-number s (h .passes))
@@ -235,7 +237,7 @@ module _ (w : ChangesRight) where
     never = never-refused files reserved s h;
   }
     where
-      reads : (object offset : ℕ) (out : List ℕ) → call (read object offset out) s .number ≡ 0 → PlainAnswer files object offset out (call (read object offset out) s)
+      reads : (object offset : ℕ) (out : List ℕ) → call (look (read object offset out)) s .number ≡ 0 → PlainAnswer files object offset out (call (look (read object offset out)) s)
       reads object offset out e =
           let r = read-accepted object offset out s e in
           let k = known-object files reserved s h object (r .card) (r .known) in

@@ -22,7 +22,8 @@ use Rattle.rules.specs.Inspect.Inspected.{hole, checked}
 use Rattle.rules.specs.Read.{readLength, follow, thenUnits, checkUnits}
 use Rattle.rules.specs.Read.Checked.{bytes}
 use Rattle.rules.specs.Call.{call, lentOut, outcome}
-use Rattle.rules.specs.Call.Call.{read}
+use Rattle.rules.specs.Call.Look.{read}
+use Rattle.rules.specs.Call.Call.{look}
 use Rattle.rules.specs.Plain.{File, fileBytes, plainRead}
 use Rattle.rules.specs.Demand.{PlainAnswer, neverNumbers}
 use Rattle.rules.specs.Answers.{checkedBytes}
@@ -125,17 +126,17 @@ module _ (s : Store) (object : ℕ) (xs : List ℕ) (known : ObjectIs (decode s)
       rw (f, h .2) at (d .done)
 
   -- every accepted read gives the plain array's bytes
-  pub read-plain : (files : List File) → fileBytes files object ≡ some xs → call (read object offset out) s .number ≡ 0
-      → PlainAnswer files object offset out (call (read object offset out) s)
+  pub read-plain : (files : List File) → fileBytes files object ≡ some xs → call (look (read object offset out)) s .number ≡ 0
+      → PlainAnswer files object offset out (call (look (read object offset out)) s)
   unfolding call lentOut result
   read-plain files e a =
       let r = read-accepted object offset out s a in
-      let k = read-bytes (r .card) (outcome (read object offset out) s) (r .known) (r .done) in
+      let k = read-bytes (r .card) (outcome (look (read object offset out)) s) (r .known) (r .done) in
       let n : readLength (r .card .size) offset (length out) ≡ length (plainRead xs offset (length out)) = rw (known (r .card) (r .known) .0) (sym (plain-length xs offset (length out))) in
       rw k (record { bytes = xs; known = e; count = n; buffer = refl })
 
   -- and no read is refused with "2, 9 to 12 and 14"
-  pub read-never : Passes s → member (call (read object offset out) s .number) neverNumbers ≡ false
+  pub read-never : Passes s → member (call (look (read object offset out)) s .number) neverNumbers ≡ false
   read-never p =
       never-read s p object offset out
       (λ c q z r e. let h = read-units c q z in let m : _≡_ {A = ℕ} 0 1 = cc (e, h .1) in omega arith)

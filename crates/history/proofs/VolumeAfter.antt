@@ -11,6 +11,7 @@ use native.Mathlib.Omega.{arith}
 use lib.Dec.{eqb, leb}
 use lib.ListN.{length, getD, List·getD-eq-default}
 use borrow.Author.Tests.{eqb-true, leb-true, le-leb}
+use Rattle.rules.specs.Time.{Time}
 use Rattle.rules.specs.Book.{bookPlaces}
 use Rattle.rules.specs.Lists.{maybe, given, all, ascending, begun}
 use Rattle.rules.specs.Sizes.{blockBytes, unitBlocks, unitBytes, mostBlocks, mostSize}
@@ -126,31 +127,31 @@ extent-fits {cards} f n m e t l =
     record { object = omega (arith, k .object, q); logical = omega (arith, k .size, b); physical = omega (arith, l, m); count = omega (arith, l, m) }
 
 -- what is known of the call besides
-pub record CallRight (v : Volume) (c : Change) (us : List ℕ) (p : Progress) (seconds nanoseconds reserved : ℕ) : Type 0 where
+pub record CallRight (v : Volume) (c : Change) (us : List ℕ) (p : Progress) (time reserved : ℕ) : Type 0 where
   pub card : Card
   pub known : cardOf v (c .object) ≡ some card
   pub size : card .size ≡ c .oldSize
   pub fits : VolumeFits v
   pub few : v .blocks ≤ mostBlocks
   pub onePlace : (b : ℕ) → b < v .blocks → holders reserved v b ≡ 1
-  pub time : TimeRight seconds nanoseconds
+  pub time : TimeRight time
   pub end : c .newSize ≤ mostSize
   pub enough : Enough v c us p
   pub hint : p .hint < 4
 
-module _ {v : Volume} {c : Change} {xs ys : List ℕ} {us : List ℕ} {p : Progress} {rs : List Rewritten} {q : Progress} {seconds nanoseconds reserved : ℕ}
-    (d : Carrying v c xs ys us p rs q) (k : CallRight v c us p seconds nanoseconds reserved) where
+module _ {v : Volume} {c : Change} {xs ys : List ℕ} {us : List ℕ} {p : Progress} {rs : List Rewritten} {q : Progress} {time reserved : ℕ}
+    (d : Carrying v c xs ys us p rs q) (k : CallRight v c us p time reserved) where
   -- the volume that is left
   abbrev after-all : Volume
-  after-all = finished c seconds nanoseconds rs q v
+  after-all = finished c time rs q v
 
   -- the cards that are left
   abbrev after-cards : List Card
-  after-cards = finishedCards c (q .allocated) seconds nanoseconds (v .books .cards)
+  after-cards = finishedCards c (q .allocated) time (v .books .cards)
 
   -- a card after the change
   abbrev moved : Card → Card
-  moved = cardAfter c (q .allocated) seconds nanoseconds
+  moved = cardAfter c (q .allocated) time
 
   -- the extents that are left
   abbrev after-extents : List Extent
@@ -177,9 +178,9 @@ module _ {v : Volume} {c : Change} {xs ys : List ℕ} {us : List ℕ} {p : Progr
   unfolding inFile extentEnd
   place-in r m i l =
       any-each (λ x. eqb (x .object) (c .object) && leb (r .unit * unitBlocks + i + 1) (begun (x .size) blockBytes)) (λ x. eqb (x .object) (c .object))
-      (rw (cards-are c (q .allocated) seconds nanoseconds (v .books .cards)) (each-map (moved) (each-any one (v .books .cards))))
+      (rw (cards-are c (q .allocated) time (v .books .cards)) (each-map (moved) (each-any one (v .books .cards))))
       (sym (find-given (λ x. eqb (x .object) (c .object)) after-cards)
-      ∙ (unfold given in ap given (found-after c (q .allocated) seconds nanoseconds (c .object) (v .books .cards) (k .card) (unfold cardOf in k .known))))
+      ∙ (unfold given in ap given (found-after c (q .allocated) time (c .object) (v .books .cards) (k .card) (unfold cardOf in k .known))))
     where
       ends : r .unit * unitBlocks + i + 1 ≤ begun (c .newSize) blockBytes
       ends = unfold validLength in omega (arith, l, made-blocks m)
@@ -187,8 +188,8 @@ module _ {v : Volume} {c : Change} {xs ys : List ℕ} {us : List ℕ} {p : Progr
       one : (x : Card) → eqb (moved x .object) (c .object) ≡ true
           → (eqb (moved x .object) (c .object) && leb (r .unit * unitBlocks + i + 1) (begun (moved x .size) blockBytes)) ≡ true
       one x t =
-          let e : x .object ≡ c .object = sym (object-after c (q .allocated) seconds nanoseconds x) ∙ eqb-true (moved x .object) (c .object) t in
-          let z : moved x .size ≡ c .newSize = ap (λ (y : Card). y .size) (card-mine c (q .allocated) seconds nanoseconds x e) in
+          let e : x .object ≡ c .object = sym (object-after c (q .allocated) time x) ∙ eqb-true (moved x .object) (c .object) t in
+          let z : moved x .size ≡ c .newSize = ap (λ (y : Card). y .size) (card-mine c (q .allocated) time x e) in
           and-intro (eqb (moved x .object) (c .object)) (leb (r .unit * unitBlocks + i + 1) (begun (moved x .size) blockBytes)) t
           (rw z (le-leb (r .unit * unitBlocks + i + 1) (begun (c .newSize) blockBytes) ends))
 
@@ -196,7 +197,7 @@ module _ {v : Volume} {c : Change} {xs ys : List ℕ} {us : List ℕ} {p : Progr
   files-in : all (inFile after-cards) after-extents ≡ true
   files-in =
       files-after after-cards (c .object) rs (v .books .extents) (apart-old d)
-      (all-weaken (inFile after-cards) (inFile (v .books .cards)) (v .books .extents) (file-stays c (q .allocated) seconds nanoseconds longer) (unfold inFiles in d .lawful .files))
+      (all-weaken (inFile after-cards) (inFile (v .books .cards)) (v .books .extents) (file-stays c (q .allocated) time longer) (unfold inFiles in d .lawful .files))
       (each-newPlaces (c .object) (each-weaken (λ r m i l. place-in r m i l) (made-all d)))
 
   -- and on the device
@@ -208,23 +209,23 @@ module _ {v : Volume} {c : Change} {xs ys : List ℕ} {us : List ℕ} {p : Progr
   unfolding finished ordered timesRight noneEmpty noOverlap onDevice inFiles
   lawful-after = record {
     order = all-passed (ascending cardBefore after-cards) (ascending extentBefore after-extents ∷ ascending groupBefore (finishedGroups (c .object) rs (v .books .groups)) ∷ [])
-        (cards-order c (q .allocated) seconds nanoseconds (v .books .cards) (in-order-before .0), (apart-new d .order, (ascending-finished (c .object) rs (v .books .groups) (in-order-before .1), tt)));
-    times = cards-times c (q .allocated) seconds nanoseconds (k .time .part) (v .books .cards) (d .lawful .times);
+        (cards-order c (q .allocated) time (v .books .cards) (in-order-before .0), (apart-new d .order, (ascending-finished (c .object) rs (v .books .groups) (in-order-before .1), tt)));
+    times = cards-times c (q .allocated) time (k .time .part) (v .books .cards) (d .lawful .times);
     filled = apart-new d .filled;
     apart = apart-new d .apart;
     device = device-in;
     files = files-in;
-    mapped = mapped-after-right d reserved (k .onePlace) seconds nanoseconds;
-    reserved = reserved-after d reserved (k .onePlace) seconds nanoseconds;
-    retired = retired-after d reserved (k .onePlace) seconds nanoseconds;
-    usedPast = used-past d reserved (k .onePlace) seconds nanoseconds;
-    retiredPast = retired-past d reserved (k .onePlace) seconds nanoseconds;
+    mapped = mapped-after-right d reserved (k .onePlace) time;
+    reserved = reserved-after d reserved (k .onePlace) time;
+    retired = retired-after d reserved (k .onePlace) time;
+    usedPast = used-past d reserved (k .onePlace) time;
+    retiredPast = retired-past d reserved (k .onePlace) time;
   }
 
   -- its cards are in range
   cards-in : Each CardFits after-cards
   cards-in =
-      cards-fit c (q .allocated) seconds nanoseconds (omega (arith, k .end)) (omega (arith, planned-enough (d .planned) (k .enough) .most)) (omega (arith, k .time .early)) (omega (arith, k .time .part))
+      cards-fit c (q .allocated) time (omega (arith, k .end)) (omega (arith, planned-enough (d .planned) (k .enough) .most)) (omega (arith, k .time .early)) (omega (arith, k .time .part))
       (v .books .cards) (k .fits .cards)
 
   -- the file's object is in range
@@ -246,7 +247,7 @@ module _ {v : Volume} {c : Change} {xs ys : List ℕ} {us : List ℕ} {p : Progr
           blocks = h .blocks;
           reserved = h .reserved;
           hint = planned-hint (k .few) (d .planned) (k .hint);
-          cards = rw (cards-length c (q .allocated) seconds nanoseconds (v .books .cards)) (h .cards);
+          cards = rw (cards-length c (q .allocated) time (v .books .cards)) (h .cards);
           extents = le;
           groups = lg;
         };
@@ -254,8 +255,8 @@ module _ {v : Volume} {c : Change} {xs ys : List ℕ} {us : List ℕ} {p : Progr
         extents = each-both (λ e t l. extent-fits cards-in (v .blocks) (k .few) e t l) (each-all (inFile after-cards) (λ e t. t) after-extents files-in)
             (each-all (λ e. leb (e .physical + e .count) (v .blocks)) (λ e t. leb-true (e .physical + e .count) (v .blocks) t) after-extents device-in);
         groups = fits-finished (c .object) object-in (each-weaken unit-in (made-all d)) (v .books .groups) (k .fits .groups);
-        used = λ n l. used-past d reserved (k .onePlace) seconds nanoseconds n (unfold mapBytes in omega (arith, l));
-        retired = λ n l. retired-past d reserved (k .onePlace) seconds nanoseconds n (unfold mapBytes in omega (arith, l));
+        used = λ n l. used-past d reserved (k .onePlace) time n (unfold mapBytes in omega (arith, l));
+        retired = λ n l. retired-past d reserved (k .onePlace) time n (unfold mapBytes in omega (arith, l));
       }
     where
       unit-in : (r : Rewritten) → Made v c ys r → (r .unit < 2 ^ 64) × (r .checksum < 2 ^ 32)
@@ -269,7 +270,7 @@ module _ {v : Volume} {c : Change} {xs ys : List ℕ} {us : List ℕ} {p : Progr
     blocks = r .blocks;
     image = length-finishedImage (v .blocks) (laid-all d) (v .image) (d .image) ∙ r .image;
     reserved = r .reserved;
-    cards = rw (cards-length c (q .allocated) seconds nanoseconds (v .books .cards)) (r .cards);
+    cards = rw (cards-length c (q .allocated) time (v .books .cards)) (r .cards);
     extents = le;
     groups = lg;
   }

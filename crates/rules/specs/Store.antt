@@ -26,6 +26,18 @@ pub record Store : Type 0 where
   pub used : List ℕ
   pub retired : List ℕ
 
+-- the store of these buffers, in the order in which a call is lent them
+abbrev pub lent : (image head cards extents groups used retired : List ℕ) → Store
+lent image head cards extents groups used retired = record {
+  image = image;
+  head = head;
+  cards = cards;
+  extents = extents;
+  groups = groups;
+  used = used;
+  retired = retired;
+}
+
 -- every buffer is one of bytes
 pub record StoreBytes (s : Store) : Type 0 where
   pub image : Bytes (s .image)
