@@ -16,7 +16,7 @@ use Rattle.rules.specs.Sizes.{blockBytes, unitBlocks, groupUnits}
 use Rattle.rules.specs.Bytes.{part, padded}
 use Rattle.rules.specs.Extent.{Extent, covers, blockOf, mapping}
 use Rattle.rules.specs.Store.{Volume, blockAt}
-use Rattle.rules.specs.Integrity.{mappedBlocks, mappedRight}
+use Rattle.rules.specs.Integrity.{mappedBlocks}
 use Rattle.rules.specs.Units.{Change}
 use Rattle.rules.specs.Inspect.{unitMapping, inspectUnit}
 use Rattle.rules.specs.Inspect.Inspected.{checked}

@@ -11,7 +11,7 @@ use native.Mathlib.Omega.{arith}
 use lib.Dec.{eqb}
 use lib.ListN.{length, take, length-take}
 use borrow.Author.Tests.{eq-eqb, ne-eqb}
-use Rattle.rules.specs.Write.{planOf, writeOutcome}
+use Rattle.rules.specs.Write.{planOf, writeOutcome, growOutcome}
 use Rattle.rules.specs.Time.{Time}
 use Rattle.rules.specs.Lists.{if_then_else_, given, count, any, member}
 use Rattle.rules.specs.Sizes.{blockBytes, unitBlocks, mostBlocks, mostRuns, mostSize, mostTransfer}
@@ -27,7 +27,7 @@ use Rattle.rules.specs.Inspect.{unitMapping}
 use Rattle.rules.specs.Rewrite.{Progress, Rewritten, Plan, rewriteUnits}
 use Rattle.rules.specs.Rewrite.Plan.{refused, planned}
 use Rattle.rules.specs.Finish.{finished}
-use Rattle.rules.specs.Call.{InRange, call, lentOut, outcome}
+use Rattle.rules.specs.Call.{InRange, call}
 use Rattle.rules.specs.Call.Call.{write, grow}
 use Rattle.rules.specs.Plain.{File, change, overwrite, accepted, fileBytes}
 use Rattle.rules.specs.Demand.{Place, placesOf, places, filePlaces, neverNumbers}
@@ -302,11 +302,11 @@ write-keeps limit object offset bytes time files reserved s i b e h = go (r .don
 grow-keeps : (object size : ℕ) (time : Time) (files : List File) (reserved : ℕ) (s : Store)
     → InRange (grow object size time) → StoreBytes s → call (grow object size time) s .number ≡ 0 → Inv files reserved s
     → Inv (accepted (grow object size time) files) reserved (call (grow object size time) s .store)
-unfolding call lentOut accepted
+unfolding call accepted
 grow-keeps object size time files reserved s i b e h = go (r .done)
   where
     o : Outcome
-    o = outcome (grow object size time) s
+    o = growOutcome object size time s
 
     r : FileCall s object (λ c o. ((size ≡ c .size) × (o ≡ accept 0 s [])) ⊎ Grown size time s c o) o
     r = grow-accepted object size time s e

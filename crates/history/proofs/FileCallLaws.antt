@@ -31,7 +31,7 @@ use Rattle.rules.specs.Arguments.{pastLimit, belowSize, withCard}
 use Rattle.rules.specs.Write.{groupsFull, extentsFull, fitCases, planOf, carriedOut, writeFile, writeOutcome, growFile, growOutcome}
 use Rattle.rules.specs.Read.{Checked, readLength, checkUnits, handOut, readUnits, readFile, readOutcome}
 use Rattle.rules.specs.Read.Checked.{failed, bytes}
-use Rattle.rules.specs.Call.{call, lookOut, lentOut, lookOutcome, outcome}
+use Rattle.rules.specs.Call.{call}
 use Rattle.rules.specs.Call.Look.{read}
 use Rattle.rules.specs.Call.Call.{grow, look}
 use Rattle.rules.specs.Demand.{neverNumbers}
@@ -171,8 +171,8 @@ grow-file size time s c =
 
 -- an accepted read
 pub read-accepted : (object offset : ℕ) (out : List ℕ) (s : Store) → call (look (read object offset out)) s .number ≡ 0
-    → FileCall s object (λ c o. ((readLength (c .size) offset (length out) ≡ 0) × (o ≡ accept 0 s out)) ⊎ ReadBytes offset out s c o) (outcome (look (read object offset out)) s)
-unfolding call outcome lentOut lookOutcome lookOut readOutcome
+    → FileCall s object (λ c o. ((readLength (c .size) offset (length out) ≡ 0) × (o ≡ accept 0 s out)) ⊎ ReadBytes offset out s c o) (readOutcome object offset out s)
+unfolding call readOutcome
 read-accepted object offset out s = file-call s out object (readFile offset s out) _ (read-file offset out s)
 
 -- an accepted write, with any limit of runs
@@ -183,8 +183,8 @@ write-accepted limit object offset xs time s = file-call s [] object (writeFile 
 
 -- an accepted grow
 pub grow-accepted : (object size : ℕ) (time : Time) (s : Store) → call (grow object size time) s .number ≡ 0
-    → FileCall s object (λ c o. ((size ≡ c .size) × (o ≡ accept 0 s [])) ⊎ Grown size time s c o) (outcome (grow object size time) s)
-unfolding call outcome lentOut growOutcome
+    → FileCall s object (λ c o. ((size ≡ c .size) × (o ≡ accept 0 s [])) ⊎ Grown size time s c o) (growOutcome object size time s)
+unfolding call growOutcome
 grow-accepted object size time s = file-call s [] object (growFile size time s) _ (grow-file size time s)
 
 -- ---- refusals that never come
@@ -215,7 +215,7 @@ module _ (s : Store) (p : Passes s) where
       → ((c : Card) → cardOf (decode s) object ≡ some c → (readLength (c .size) offset (length out) ≡ 0 → ⊥)
       → (r : Refusal) → checkUnits (decode s) (c .object) (c .size) (unitsOf offset (offset + readLength (c .size) offset (length out))) ≡ failed r → ⊥)
       → member (call (look (read object offset out)) s .number) neverNumbers ≡ false
-  unfolding call outcome lentOut lookOutcome lookOut readOutcome readFile readUnits result member any
+  unfolding call readOutcome readFile readUnits result member any
   never-read object offset out h =
       never-file s out object (readFile offset s out) p (λ c q.
       if-cases (Never s out) (eqb (readLength (c .size) offset (length out)) 0) (accept 0 s out) _
@@ -239,7 +239,7 @@ module _ (s : Store) (p : Passes s) where
       → ((c : Card) → cardOf (decode s) object ≡ some c → c .size < size → size ≤ mostSize → TimeRight time
       → (r : Refusal) → planOf mostRuns growUnits (growChange (c .object) (c .size) size) c s ≡ refused r → member (numberOf r) neverNumbers ≡ false)
       → member (call (grow object size time) s .number) neverNumbers ≡ false
-  unfolding call outcome lentOut growOutcome growFile pastLimit belowSize result numberOf member any
+  unfolding call growOutcome growFile pastLimit belowSize result numberOf member any
   never-grow object size time h =
       never-file s [] object (growFile size time s) p (λ c q.
       firstOf-cases (Never s []) _ (each-more (λ e. refl) (each-more (λ e. refl) each-none))

@@ -16,14 +16,14 @@ use Rattle.rules.specs.Refusal.{Outcome, Result, numberOf, firstOf, result}
 use Rattle.rules.specs.Fresh.{freshVolume, freshOutcome}
 use Rattle.rules.specs.Enter.{enterCases, enterOutcome}
 use Rattle.rules.specs.Settle.{settleOutcome, fillOutcome}
-use Rattle.rules.specs.Call.{Call, InRange, call, lookOut, lentOut, lookOutcome, outcome}
+use Rattle.rules.specs.Call.{Call, InRange, call}
 use Rattle.rules.specs.Call.Look.{fill}
 use Rattle.rules.specs.Call.Call.{fresh, enter, settle, look}
-use Rattle.rules.specs.Plain.{Fed, File, accepted, step, plain}
+use Rattle.rules.specs.Plain.{File, accepted, step, plain}
 use Rattle.rules.specs.Demand.{run, wasRefused, fed, givenReserved, lastReserved, AllInRange, places, holders, neverNumbers, Sound, Demand3}
 use Rattle.rules.specs.Demand.AllInRange.{none as no-call, one as one-call}
 use Rattle.rules.proofs.ListLaws.{clash, if-true, if-false, Each, each-none, each-more}
-use Rattle.rules.proofs.Refused.{Numbered, Unchanged, call-cases}
+use Rattle.rules.proofs.Refused.{Numbered, Unchanged, lentOut, call-cases}
 use Rattle.rules.proofs.PassLaws.{Passes}
 use Rattle.rules.proofs.OutcomeLaws.{firstOf-cases}
 use Rattle.rules.proofs.BytesKept.{bytes-kept}
@@ -119,25 +119,25 @@ goes-on s next p =
 
 -- fresh, on any store
 pub never-fresh : (uuid : List ℕ) (reserved : ℕ) (s : Store) → member (call (fresh uuid reserved) s .number) neverNumbers ≡ false
-unfolding call outcome lentOut freshOutcome result numberOf member any
+unfolding call freshOutcome result numberOf member any
 never-fresh uuid reserved s = firstOf-cases (Never s []) _ (each-more (λ h. refl) each-none) (λ n. refl)
 
 module _ (s : Store) (p : Passes s) where
   -- enter
   pub never-enter : (object : ℕ) (time : Time) → member (call (enter object time) s .number) neverNumbers ≡ false
-  unfolding call outcome lentOut enterOutcome enterCases result numberOf member any
+  unfolding call enterOutcome enterCases result numberOf member any
   never-enter object time =
       rw (goes-on s (firstOf (enterCases object time s) _) p)
       (firstOf-cases (Never s []) _ (each-more (λ h. refl) (each-more (λ h. refl) (each-more (λ h. refl) each-none))) (λ n. refl))
 
   -- settle is accepted
   pub settle-number : call settle s .number ≡ 0
-  unfolding call outcome lentOut settleOutcome result
+  unfolding call settleOutcome result
   settle-number = ap (λ o. result s [] o .number) (goes-on s _ p)
 
   -- and so is fill
   pub fill-number : call (look fill) s .number ≡ 0
-  unfolding call outcome lentOut lookOutcome lookOut fillOutcome result
+  unfolding call fillOutcome result
   fill-number = ap (λ o. result s [] o .number) (goes-on s _ p)
 
 -- ---- after fresh

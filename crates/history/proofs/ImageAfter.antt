@@ -11,13 +11,13 @@ use lib.ListN.{length, getD}
 use borrow.Author.Tests.{eqb-false}
 use Rattle.rules.specs.Lists.{member}
 use Rattle.rules.specs.Sizes.{blockBytes}
-use Rattle.rules.specs.Bytes.{Bytes, part, padded}
+use Rattle.rules.specs.Bytes.{part, padded}
 use Rattle.rules.specs.Store.{blockAt}
 use Rattle.rules.specs.Kept.{wanted, assigned}
 use Rattle.rules.specs.Rewrite.{Rewritten}
 use Rattle.rules.specs.Finish.{newBlocks, writeBlock, writeNew, finishedImage}
 use Rattle.rules.proofs.ListLaws.{order-cases, or-none-left, or-none-right, or-right, member-append, Each, each-none, each-more}
-use Rattle.rules.proofs.ByteLaws.{length-padded, length-patch, part-patch, part-patch-before, part-patch-behind, bytes-patch, bytes-padded, bytes-part}
+use Rattle.rules.proofs.ByteLaws.{length-padded, length-patch, part-patch, part-patch-before, part-patch-behind}
 use Rattle.rules.proofs.CountLaws.{member-cons, member-first, Once, once-head, once-tail}
 use Rattle.history.proofs.MoreBytes.{length-part-min}
 use Rattle.history.proofs.MoreLists.{once-apart, once-left, once-right}

@@ -23,7 +23,7 @@ use Rattle.rules.specs.Inspect.{checksumOf}
 use Rattle.rules.specs.Fresh.{freshVolume}
 use Rattle.rules.specs.Enter.{newCard, entered}
 use Rattle.rules.specs.Settle.{settled}
-use Rattle.rules.specs.Call.{Look, Call, InRange, lentOut, outcome, call}
+use Rattle.rules.specs.Call.{Look, Call, InRange, call}
 use Rattle.rules.specs.Call.Look.{read, fill}
 use Rattle.rules.specs.Call.Call.{fresh, enter, write, grow, settle, look}
 use Rattle.rules.specs.Plain.{File, accepted, fileBytes}
@@ -250,7 +250,7 @@ module _ (w : ChangesRight) where
   -- every accepted call keeps it
   keeps : (c : Call) (files : List File) (reserved : ℕ) (s : Store) → InRange c → StoreBytes s → call c s .number ≡ 0 → Inv files reserved s
       → Inv (accepted c files) (givenReserved c reserved) (call c s .store)
-  unfolding call lentOut outcome accepted givenReserved
+  unfolding call accepted givenReserved
   keeps (fresh uuid n) files reserved s i b e h = inv-fresh s b uuid n i e
   keeps (enter object time) files reserved s i b e h = inv-enter object time files reserved s i b e h
   keeps (write object offset bytes time) files reserved s i b e h = w .writeKeeps mostRuns object offset bytes time files reserved s i b e h
@@ -260,7 +260,7 @@ module _ (w : ChangesRight) where
 
   -- and none is refused with "2, 9 to 12 and 14"
   never-refused : (files : List File) (reserved : ℕ) (s : Store) → StoreBytes s → Inv files reserved s → (c : Call) → InRange c → member (call c s .number) neverNumbers ≡ false
-  unfolding call lentOut outcome member any
+  unfolding call member any
   never-refused files reserved s b h (fresh uuid n) i = never-fresh uuid n s
   never-refused files reserved s b h (enter object time) i = never-enter s (h .passes) object time
   never-refused files reserved s b h (write object offset bytes time) i = w .writeNever mostRuns object offset bytes time files reserved s i b h

@@ -7,10 +7,10 @@ use mathlib.Core.Option.{none, some}
 use Prim.Native.Nat.{ℕ, zero, suc, _+_, _≤_, _<_}
 use native.Mathlib.Omega.{arith}
 use lib.Dec.{eqb, ltb}
-use lib.ListN.{length, getD, getElem?, replicate}
+use lib.ListN.{length, getD, getElem?}
 use borrow.Author.Tests.{eqb-true, eq-eqb, ne-eqb, ltb-true, ltb-false}
 use Rattle.rules.specs.Lists.{if_then_else_, maybe, any, filter, count, find, member, ascending, neighbours}
-use Rattle.rules.proofs.ListLaws.{test-cases, if-true, if-false, and-left, and-intro, or-cases, or-left, or-right, count-append, count-yes, count-no, find-yes, find-no, ascending-first, ascending-tail, Each, each-none, each-more, each-any, each-weaken}
+use Rattle.rules.proofs.ListLaws.{test-cases, and-left, and-intro, or-cases, or-left, or-right, count-append, count-yes, count-no, find-yes, find-no, ascending-first, ascending-tail, Each, each-none, each-more, each-any, each-weaken}
 use Rattle.rules.proofs.CountLaws.{count-nil, count-cons, same-test, count-each, count-none, count-filter, member-count, Once, ascending-below}
 use Rattle.rules.proofs.PassLaws.{all-each}
 use Rattle.history.proofs.HolderLaws.{count-every}

@@ -19,9 +19,9 @@ use Rattle.rules.specs.Refusal.Outcome.{accept}
 use Rattle.rules.specs.Units.{validLength, unitsOf}
 use Rattle.rules.specs.Inspect.{Inspected, inspectUnit}
 use Rattle.rules.specs.Inspect.Inspected.{hole, checked}
-use Rattle.rules.specs.Read.{readLength, follow, thenUnits, checkUnits}
+use Rattle.rules.specs.Read.{readLength, follow, thenUnits, checkUnits, readOutcome}
 use Rattle.rules.specs.Read.Checked.{bytes}
-use Rattle.rules.specs.Call.{call, lentOut, outcome, lookOut}
+use Rattle.rules.specs.Call.{call}
 use Rattle.rules.specs.Call.Look.{read}
 use Rattle.rules.specs.Call.Call.{look}
 use Rattle.rules.specs.Plain.{File, fileBytes, plainRead}
@@ -128,10 +128,10 @@ module _ (s : Store) (object : ℕ) (xs : List ℕ) (known : ObjectIs (decode s)
   -- every accepted read gives the plain array's bytes
   pub read-plain : (files : List File) → fileBytes files object ≡ some xs → call (look (read object offset out)) s .number ≡ 0
       → PlainAnswer files object offset out (call (look (read object offset out)) s)
-  unfolding call lentOut lookOut result
+  unfolding call result
   read-plain files e a =
       let r = read-accepted object offset out s a in
-      let k = read-bytes (r .card) (outcome (look (read object offset out)) s) (r .known) (r .done) in
+      let k = read-bytes (r .card) (readOutcome object offset out s) (r .known) (r .done) in
       let n : readLength (r .card .size) offset (length out) ≡ length (plainRead xs offset (length out)) = rw (known (r .card) (r .known) .0) (sym (plain-length xs offset (length out))) in
       rw k (record { bytes = xs; known = e; count = n; buffer = refl })
 

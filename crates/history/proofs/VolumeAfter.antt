@@ -1,9 +1,9 @@
 -- The volume that a change leaves is lawful and in range, and has room in the buffers: so the store that is left says it.
 -- Assumes nothing.
 use mathlib.Core.Path.{_≡_, refl, sym, ap, _∙_}
-use mathlib.Core.List.{List, [], _∷_, map, flatMap}
+use mathlib.Core.List.{List, [], _∷_, map}
 use mathlib.Core.Bool.{true, _&&_}
-use mathlib.Core.Option.{Option, none, some}
+use mathlib.Core.Option.{some}
 use Prim.Native.Nat.{ℕ, _+_, _-_, _*_, _/_, _%_, _^_, _≤_, _<_}
 use native.Mathlib.Nat.{pow-suc}
 use native.Mathlib.Decide.{decLt}
@@ -13,7 +13,7 @@ use lib.ListN.{length, getD, List·getD-eq-default}
 use borrow.Author.Tests.{eqb-true, leb-true, le-leb}
 use Rattle.rules.specs.Time.{Time}
 use Rattle.rules.specs.Book.{bookPlaces}
-use Rattle.rules.specs.Lists.{maybe, given, all, ascending, begun}
+use Rattle.rules.specs.Lists.{given, all, ascending, begun}
 use Rattle.rules.specs.Sizes.{blockBytes, unitBlocks, unitBytes, mostBlocks, mostSize}
 use Rattle.rules.specs.Bytes.{Bytes, part}
 use Rattle.rules.specs.Card.{Card, cardBefore}
@@ -22,14 +22,14 @@ use Rattle.rules.specs.Group.{groupBytes, groupBefore}
 use Rattle.rules.specs.Map.{mapBytes}
 use Rattle.rules.specs.Checksum.{unitChecksum}
 use Rattle.rules.specs.Crc32c.{fromBits, complement, message, dividend, divide, crc32c}
-use Rattle.rules.specs.Store.{Store, Volume, headOf, encodeInto, blockAt, cardOf}
+use Rattle.rules.specs.Store.{Store, Volume, headOf, encodeInto, cardOf}
 use Rattle.rules.specs.Integrity.{ordered, timesRight, noneEmpty, noOverlap, onDevice, inFile, inFiles}
 use Rattle.rules.specs.Units.{Change, validLength}
-use Rattle.rules.specs.Inspect.{Inspected, inspectUnit, validBytes, backedBytes, validMapping}
+use Rattle.rules.specs.Inspect.{Inspected, inspectUnit, validBytes}
 use Rattle.rules.specs.Rewrite.{Progress, Rewritten}
 use Rattle.rules.specs.Finish.{finishedCards, finishedExtents, finishedGroups, finished}
 use Rattle.rules.proofs.ListLaws.{and-left, and-right, and-intro, all-weaken, any-index, find-given, find-passes, find-mem, Each, each-at, each-all, each-both, each-map, each-any, each-weaken, getD-same}
-use Rattle.rules.proofs.ByteLaws.{bytes-nil, bytes-append, bytes-take, bytes-part, getD-part}
+use Rattle.rules.proofs.ByteLaws.{bytes-part, getD-part}
 use Rattle.rules.proofs.DivisionLaws.{crc-divides}
 use Rattle.rules.proofs.CardLaws.{CardFits}
 use Rattle.rules.proofs.ExtentLaws.{ExtentFits}

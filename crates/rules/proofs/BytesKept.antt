@@ -1,26 +1,24 @@
 -- A call leaves a store of bytes one of bytes, whatever the store says: a damaged one too.
 -- Assumes nothing.
-use mathlib.Core.Path.{_≡_}
 use mathlib.Core.List.{List, [], _∷_, flatMap}
 use mathlib.Core.Bool.{Bool, not}
 use mathlib.Core.Option.{Option, none, some}
 use Prim.Native.Nat.{ℕ, suc, _-_, _*_}
 use lib.Dec.{eqb}
-use lib.ListN.{length, take}
+use lib.ListN.{length}
 use Rattle.rules.specs.Lists.{maybe}
 use Rattle.rules.specs.Sizes.{blockBytes, unitBytes, mostRuns, mostTransfer}
 use Rattle.rules.specs.Bytes.{Bytes, part, padded}
 use Rattle.rules.specs.Time.{Time}
 use Rattle.rules.specs.Card.{Card}
 use Rattle.rules.specs.Head.{uuidBytes, decodeHead}
-use Rattle.rules.specs.Store.{Store, StoreBytes, Volume, decodeWith, decode, encodeInto, blockAt, cardOf}
+use Rattle.rules.specs.Store.{Store, StoreBytes, Volume, decodeWith, decode, blockAt, cardOf}
 use Rattle.rules.specs.Refusal.{Case, Outcome, firstOf, result}
 use Rattle.rules.specs.Arguments.{withCard}
 use Rattle.rules.specs.Units.{Change, clipped, writeChange, growChange, validLength, writtenFrom, writtenPart, touches, readsOld, assembled}
 use Rattle.rules.specs.Inspect.{Inspected, checksumOf, backedUnder, validMapping, backedBytes, validBytes, fullyBacked, zeroPastEnd, checksumRight, inspectSlot, inspectUnit}
 use Rattle.rules.specs.Inspect.Inspected.{damaged, hole, checked}
-use Rattle.rules.specs.Kept.{wanted}
-use Rattle.rules.specs.Allocation.{allocateData, tooFew}
+use Rattle.rules.specs.Allocation.{tooFew}
 use Rattle.rules.specs.Rewrite.{Progress, Rewritten, Step, Plan, layOut, countDisagrees, counted, allocateUnit, rewriteFrom, afterRead, rewriteUnit, after, prepend, andThen, rewriteUnits}
 use Rattle.rules.specs.Rewrite.Step.{stopped, untouched, rewritten}
 use Rattle.rules.specs.Rewrite.Plan.{refused, planned}
@@ -29,7 +27,7 @@ use Rattle.rules.specs.Fresh.{freshVolume, freshOutcome}
 use Rattle.rules.specs.Enter.{newCard, entered, enterOutcome}
 use Rattle.rules.specs.Settle.{settled, settleOutcome}
 use Rattle.rules.specs.Write.{planOf, carriedOut, writeFile, writeOutcome, growFile, growOutcome}
-use Rattle.rules.specs.Call.{Call, InRange, call, lentOut, outcome}
+use Rattle.rules.specs.Call.{Call, InRange, call}
 use Rattle.rules.specs.Call.Call.{fresh, enter, write, grow, settle, look}
 use Rattle.rules.proofs.ListLaws.{if-cases, maybe-cases, Each, each-none, each-more, each-any}
 use Rattle.rules.proofs.ByteLaws.{bytes-nil, bytes-append, bytes-take, bytes-part, bytes-patch, bytes-padded}
@@ -195,7 +193,7 @@ module _ (s : Store) (b : StoreBytes s) where
 
 -- every call
 pub bytes-kept : (c : Call) (s : Store) → InRange c → StoreBytes s → StoreBytes (call c s .store)
-unfolding call lentOut outcome freshOutcome enterOutcome growOutcome growFile settleOutcome result
+unfolding call freshOutcome enterOutcome growOutcome growFile settleOutcome result
 bytes-kept (fresh uuid reserved) s i b = tested s b [] _ _ (bytes-encodeInto s (freshVolume uuid reserved s) (unfold freshVolume in i .0) (unfold freshVolume in b .image))
 bytes-kept (enter object time) s i b =
     tested s b [] _ _ (tested s b [] _ _ (bytes-encodeInto s (entered (newCard object time) (decode s)) (unfold entered in uuid-bytes s b) (unfold entered decode decodeWith in b .image)))
