@@ -4,11 +4,12 @@ ghost use mathlib.Core.Bool.{true};
 ghost use Prim.Native.Nat.{_+_, _*_, _≤_, _<_};
 ghost use lib.ListN.{length};
 ghost use Rattle.rules.specs.Lists.{ascending};
+ghost use Rattle.rules.specs.Sizes.{mostPlaces};
 ghost use Rattle.rules.specs.Card.{cardBytes, decodeCard, cardBefore};
 ghost use Rattle.rules.specs.Extent.{extentBytes, decodeExtent, extentBefore, covers};
 ghost use Rattle.rules.specs.Group.{groupBytes, decodeGroup, groupBefore};
 ghost use Rattle.rules.specs.Book.{decodeBook};
-ghost use Rattle.book.specs.Places.{recordAt, FoundFirst, LastExtent, leading, cardIs, cardUnder, extentUnder, extentUpTo, groupIs, groupUnder};
+ghost use Rattle.book.specs.Places.{recordAt, FoundFirst, FloorExtent, leading, cardIs, cardUnder, extentUnder, extentUpTo, groupIs, groupUnder};
 use super::Found;
 
 // Whether the card at place `i` is that of `object`.
@@ -74,11 +75,12 @@ fn extent_up_to(s: &[u8], i: usize, object: u64, block: u64) -> bool
     e.logical <= block
 }
 
-// The last of the first `n` extents that is one of `object` and starts at `block` or before. The scan goes from the end: the first that
-// it meets is the last.
-pub fn last_from(s: &[u8], n: usize, object: u64, block: u64) -> Found
+// The floor of `block` among the first `n` extents: the last that is one of `object` and starts at `block` or before. The scan goes from the
+// end: the first that it meets is the last.
+pub fn floor_extent(s: &[u8], n: usize, object: u64, block: u64) -> Found
     requires { ⌜ extentBytes * n ≤ length (now s) ⌝ }
-    ensures { λ r. ⌜ (ascending extentBefore (decodeBook decodeExtent extentBytes n (now (s .entry))) ≡ true → LastExtent object block n (now (s .entry)) r) ⌝ }
+    requires { ⌜ n ≤ mostPlaces ⌝ }
+    ensures { λ r. ⌜ (ascending extentBefore (decodeBook decodeExtent extentBytes n (now (s .entry))) ≡ true → FloorExtent object block n (now (s .entry)) r) ⌝ }
 {
     let mut i = n;
     while 0 < i {

@@ -110,7 +110,7 @@ fn extent_follows(e: Extent, next: Extent) -> bool
     if !e.before(next) {
         return false;
     }
-    e.clear(next)
+    e.apart(next)
 }
 
 // Whether the first `n` extents ascend by key and keep apart from each other. Each is decoded once: the one before is kept.

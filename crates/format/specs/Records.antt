@@ -48,8 +48,7 @@ cardOf c = record {
   object = c .object;
   size = c .size;
   allocated = c .allocated;
-  seconds = c .seconds;
-  nanoseconds = c .nanoseconds;
+  changed = record { seconds = c .seconds; nanoseconds = c .nanoseconds };
 }
 
 -- each of a card's fields is within its width; object has the whole of a word
