@@ -74,7 +74,7 @@ abbrev pub extentUpTo : ℕ → ℕ → Extent → Bool
 extentUpTo object block e = eqb (e .object) object && leb (e .logical) block
 
 -- the last extent of an object that starts at a block or before was found, as the rules have it, and at its place
-pub record LastExtent (object block n : ℕ) (s : List ℕ) (r : Found) : Type 0 where
+pub record FloorExtent (object block n : ℕ) (s : List ℕ) (r : Found) : Type 0 where
   pub place : placeOf r ≡ lastPlace (extentUpTo object block) (decodeBook decodeExtent extentBytes n s)
   pub found : foundIn decodeExtent extentBytes s r ≡ floorExtent (decodeBook decodeExtent extentBytes n s) object block
   pub within : (i : ℕ) → placeOf r ≡ some i → i < n

@@ -98,8 +98,8 @@ module _ (s : List ℕ) (at : ℕ) where
       → cardOf c ≡ decodeCard (part at cardBytes s)
   unfolding cardOf decodeCard cardFields
   card-read f c v o z a t n =
-      (λ i. record { object = o i; size = z i; allocated = a i; seconds = t i; nanoseconds = n i })
-      ∙ (λ i. record { object = getD (v i) 0 0; size = getD (v i) 1 0; allocated = getD (v i) 2 0; seconds = getD (v i) 3 0; nanoseconds = getD (v i) 4 0 })
+      (λ i. record { object = o i; size = z i; allocated = a i; changed = record { seconds = t i; nanoseconds = n i } })
+      ∙ (λ i. record { object = getD (v i) 0 0; size = getD (v i) 1 0; allocated = getD (v i) 2 0; changed = record { seconds = getD (v i) 3 0; nanoseconds = getD (v i) 4 0 } })
 
   -- they are within their widths
   pub card-fits : (f : CardValues) (c : Card) → cardValues f ≡ unpack cardWidths (be (part at 32 s))

@@ -1,12 +1,12 @@
--- `book::find::last_from` meets its contract.
+-- `book::find::floor_extent` meets its contract.
 -- Assumes nothing.
 use Prim.Native.Nat.{_-_, _≤_}
 use borrow.Author.Needs.{needs}
 use Rattle.rules.specs.Extent.{extentBytes, decodeExtent}
-use Rattle.book.proofs.SearchLaws.{last-extent, FailBehind, behind-none, behind-more, found-last, found-no-last}
+use Rattle.book.proofs.SearchLaws.{floor-extent, FailBehind, behind-none, behind-more, found-last, found-no-last}
 use Rattle.book.specs.Places.{extentUpTo}
-use Rattle.book.proofs.find.last_from.Statement.{statement}
-use Rattle.book.proofs.find.last_from.Tie as tie
+use Rattle.book.proofs.find.floor_extent.Statement.{statement}
+use Rattle.book.proofs.find.floor_extent.Tie as tie
 
 abbrev Inv-loop : tie.InvT-loop
 Inv-loop s n object block i₀ i = (i ≤ n) × FailBehind (extentUpTo object block) decodeExtent extentBytes n s i
@@ -27,7 +27,7 @@ sub-t9 : tie.Need-sub-t9 Inv-loop μ-loop
 sub-t9 c = search needs
 
 returns : tie.Need-returns Inv-loop μ-loop
-returns c = search (last-extent, found-last, needs)
+returns c = search (floor-extent, found-last, needs)
 
 sub-i : tie.Need-sub-i Inv-loop μ-loop
 sub-i c = search needs
@@ -39,10 +39,10 @@ loop-again : tie.Need-loop-again Inv-loop μ-loop
 loop-again c = search (behind-more, needs)
 
 returns-2 : tie.Need-returns-2 Inv-loop μ-loop
-returns-2 c = search (last-extent, found-no-last, needs)
+returns-2 c = search (floor-extent, found-no-last, needs)
 
-pub last-from-spec : {M : Type 1} → statement M
-last-from-spec =
+pub floor-extent-spec : {M : Type 1} → statement M
+floor-extent-spec =
     tie.close
     (tie.spec
     Inv-loop
