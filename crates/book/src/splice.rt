@@ -4,9 +4,9 @@ ghost use mathlib.Core.List.{_++_};
 ghost use Prim.Native.Nat.{_+_, _-_, _*_, _≤_, _<_};
 ghost use lib.ListN.{length, replicate};
 ghost use Rattle.rules.specs.Bytes.{part, patch};
-ghost use Rattle.rules.specs.Card.{cardBytes, decodeCard};
-ghost use Rattle.rules.specs.Extent.{extentBytes, decodeExtent};
-ghost use Rattle.rules.specs.Group.{groupBytes, decodeGroup};
+ghost use Rattle.rules.specs.Card.{cardBytes};
+ghost use Rattle.rules.specs.Extent.{extentBytes};
+ghost use Rattle.rules.specs.Group.{groupBytes};
 ghost use Rattle.book.specs.Places.{Spliced};
 use format::card::CARD_BYTES;
 use format::extent::EXTENT_BYTES;
@@ -48,7 +48,7 @@ pub fn splice(s: &mut [u8], a: usize, b: usize, e: usize, x: &[u8])
 pub fn splice_cards(s: &mut [u8], n: usize, i: usize, k: usize, x: &[u8], m: usize)
     requires { ⌜ (i + k ≤ n) × (length (now x) ≡ cardBytes * m) ⌝ }
     requires { ⌜ (cardBytes * n ≤ length (now s)) × (cardBytes * (n - k + m) ≤ length (now s)) ⌝ }
-    ensures { λ _. ⌜ Spliced decodeCard cardBytes n i k m (now (s .entry)) (now (x .entry)) (now (s .exit)) ⌝ }
+    ensures { λ _. ⌜ Spliced cardBytes n i k m (now (s .entry)) (now (x .entry)) (now (s .exit)) ⌝ }
 {
     splice(s, CARD_BYTES * i, CARD_BYTES * (i + k), CARD_BYTES * n, x);
 }
@@ -57,7 +57,7 @@ pub fn splice_cards(s: &mut [u8], n: usize, i: usize, k: usize, x: &[u8], m: usi
 pub fn splice_extents(s: &mut [u8], n: usize, i: usize, k: usize, x: &[u8], m: usize)
     requires { ⌜ (i + k ≤ n) × (length (now x) ≡ extentBytes * m) ⌝ }
     requires { ⌜ (extentBytes * n ≤ length (now s)) × (extentBytes * (n - k + m) ≤ length (now s)) ⌝ }
-    ensures { λ _. ⌜ Spliced decodeExtent extentBytes n i k m (now (s .entry)) (now (x .entry)) (now (s .exit)) ⌝ }
+    ensures { λ _. ⌜ Spliced extentBytes n i k m (now (s .entry)) (now (x .entry)) (now (s .exit)) ⌝ }
 {
     splice(
         s,
@@ -72,7 +72,7 @@ pub fn splice_extents(s: &mut [u8], n: usize, i: usize, k: usize, x: &[u8], m: u
 pub fn splice_groups(s: &mut [u8], n: usize, i: usize, k: usize, x: &[u8], m: usize)
     requires { ⌜ (i + k ≤ n) × (length (now x) ≡ groupBytes * m) ⌝ }
     requires { ⌜ (groupBytes * n ≤ length (now s)) × (groupBytes * (n - k + m) ≤ length (now s)) ⌝ }
-    ensures { λ _. ⌜ Spliced decodeGroup groupBytes n i k m (now (s .entry)) (now (x .entry)) (now (s .exit)) ⌝ }
+    ensures { λ _. ⌜ Spliced groupBytes n i k m (now (s .entry)) (now (x .entry)) (now (s .exit)) ⌝ }
 {
     splice(
         s,
