@@ -180,8 +180,8 @@ module _ (m x : List ℕ) (i a b : ℕ) (p : a ≡ le (part i 8 m)) (q : b ≡ l
   unfolding only
   fails-only = record {
     bits = λ j h.
-    bit-or (2 ^ 64 - 1 - a) b j
-    ∙ rw (bit-not 64 a j l h, bit-first j h, bit-second j h) (not-and (bitSet m (8 * i + j)) (bitSet x (8 * i + j)));
+        bit-or (2 ^ 64 - 1 - a) b j
+        ∙ rw (bit-not 64 a j l h, bit-first j h, bit-second j h) (not-and (bitSet m (8 * i + j)) (bitSet x (8 * i + j)));
   }
 
   -- the second, and the first inverted: the bits that are not inside the first map
@@ -189,8 +189,8 @@ module _ (m x : List ℕ) (i a b : ℕ) (p : a ≡ le (part i 8 m)) (q : b ≡ l
   unfolding inside
   fails-inside = record {
     bits = λ j h.
-    bit-and b (2 ^ 64 - 1 - a) j
-    ∙ rw (bit-not 64 a j l h, bit-first j h, bit-second j h) (not-or (bitSet m (8 * i + j)) (bitSet x (8 * i + j)));
+        bit-and b (2 ^ 64 - 1 - a) j
+        ∙ rw (bit-not 64 a j l h, bit-first j h, bit-second j h) (not-or (bitSet m (8 * i + j)) (bitSet x (8 * i + j)));
   }
 
 -- a double inversion
