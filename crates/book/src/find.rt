@@ -11,13 +11,16 @@ ghost use Rattle.rules.specs.Group.{groupBytes, decodeGroup, groupBefore};
 ghost use Rattle.rules.specs.Book.{decodeBook};
 ghost use Rattle.book.specs.Places.{recordAt, FoundFirst, FloorExtent, leading, cardIs, cardUnder, extentUnder, extentUpTo, groupIs, groupUnder};
 use super::Found;
+use format::card::CARD_BYTES;
+use format::extent::EXTENT_BYTES;
+use format::group::GROUP_BYTES;
 
 // Whether the card at place `i` is that of `object`.
 fn card_is(s: &[u8], i: usize, object: u64) -> bool
     requires { ⌜ cardBytes * i + cardBytes ≤ length (now s) ⌝ }
     ensures { λ r. ⌜ r ≡ cardIs object (recordAt decodeCard cardBytes (now (s .entry)) i) ⌝ }
 {
-    let c = format::card::decode_card(s, 32 * i);
+    let c = format::card::decode_card(s, CARD_BYTES * i);
     c.object == object
 }
 
@@ -41,7 +44,7 @@ fn group_is(s: &[u8], i: usize, object: u64, number: u64) -> bool
     requires { ⌜ groupBytes * i + groupBytes ≤ length (now s) ⌝ }
     ensures { λ r. ⌜ r ≡ groupIs object number (recordAt decodeGroup groupBytes (now (s .entry)) i) ⌝ }
 {
-    let at = 1073 * i;
+    let at = GROUP_BYTES * i;
     if format::group::group_object(s, at) != object {
         return false;
     }
@@ -68,7 +71,7 @@ fn extent_up_to(s: &[u8], i: usize, object: u64, block: u64) -> bool
     requires { ⌜ extentBytes * i + extentBytes ≤ length (now s) ⌝ }
     ensures { λ r. ⌜ r ≡ extentUpTo object block (recordAt decodeExtent extentBytes (now (s .entry)) i) ⌝ }
 {
-    let e = format::extent::decode_extent(s, 33 * i);
+    let e = format::extent::decode_extent(s, EXTENT_BYTES * i);
     if e.object != object {
         return false;
     }
@@ -97,7 +100,7 @@ fn extent_covers(s: &[u8], i: usize, object: u64, block: u64) -> bool
     requires { ⌜ extentBytes * i + extentBytes ≤ length (now s) ⌝ }
     ensures { λ r. ⌜ r ≡ covers object block (recordAt decodeExtent extentBytes (now (s .entry)) i) ⌝ }
 {
-    let e = format::extent::decode_extent(s, 33 * i);
+    let e = format::extent::decode_extent(s, EXTENT_BYTES * i);
     e.covers(object, block)
 }
 
@@ -121,7 +124,7 @@ fn card_under(s: &[u8], i: usize, object: u64) -> bool
     requires { ⌜ cardBytes * i + cardBytes ≤ length (now s) ⌝ }
     ensures { λ r. ⌜ r ≡ cardUnder object (recordAt decodeCard cardBytes (now (s .entry)) i) ⌝ }
 {
-    let c = format::card::decode_card(s, 32 * i);
+    let c = format::card::decode_card(s, CARD_BYTES * i);
     c.object < object
 }
 
@@ -145,7 +148,7 @@ fn extent_under(s: &[u8], i: usize, object: u64, logical: u64) -> bool
     requires { ⌜ extentBytes * i + extentBytes ≤ length (now s) ⌝ }
     ensures { λ r. ⌜ r ≡ extentUnder object logical (recordAt decodeExtent extentBytes (now (s .entry)) i) ⌝ }
 {
-    let e = format::extent::decode_extent(s, 33 * i);
+    let e = format::extent::decode_extent(s, EXTENT_BYTES * i);
     format::key::before(e.object, e.logical, object, logical)
 }
 
@@ -169,7 +172,7 @@ fn group_under(s: &[u8], i: usize, object: u64, number: u64) -> bool
     requires { ⌜ groupBytes * i + groupBytes ≤ length (now s) ⌝ }
     ensures { λ r. ⌜ r ≡ groupUnder object number (recordAt decodeGroup groupBytes (now (s .entry)) i) ⌝ }
 {
-    let at = 1073 * i;
+    let at = GROUP_BYTES * i;
     format::key::before(
         format::group::group_object(s, at),
         format::group::group_number(s, at),

@@ -21,6 +21,18 @@ use Rattle.format.specs.declared.group.ChecksumGroup as group
 use Rattle.format.specs.declared.group.Slot as slot
 use Rattle.format.specs.declared.group.Slot.the-variants.{Present, Absent}
 
+-- the bytes of a key
+abbrev pub keyBytes : ℕ
+keyBytes = 17
+
+-- the bytes of a group's presence bits
+abbrev pub presenceBytes : ℕ
+presenceBytes = 32
+
+-- the bytes of a slot
+abbrev pub slotWidth : ℕ
+slotWidth = 4
+
 -- the head that the struct says
 unfoldable pub headOf : head.Head → Head
 headOf h = record {

@@ -9,19 +9,27 @@ ghost use Rattle.rules.specs.Store.{lent};
 ghost use Rattle.rules.specs.Lengths.{lengthWrong, freshLengthWrong};
 ghost use Rattle.format.specs.Records.{headOf};
 ghost use Rattle.intake.specs.LengthTests.{imageRight, bookRight, booksRight, mapsFit, buffersRight, headRight};
+use format::card::CARD_BYTES;
+use format::extent::EXTENT_BYTES;
+use format::group::GROUP_BYTES;
+use format::head::HEAD_BYTES;
 use format::head::Head;
+use format::head::UUID_BYTES;
+use format::sizes::BLOCK_BYTES;
+use format::sizes::MOST_BLOCKS;
+use format::sizes::MOST_PLACES;
 
 // Whether an image of `n` bytes is 1 to 65,536 whole blocks.
 pub fn image_fits(n: usize) -> bool
     ensures { λ r. ⌜ r ≡ imageRight n ⌝ }
 {
-    if n % 4096 != 0 {
+    if n % BLOCK_BYTES != 0 {
         return false;
     }
-    if n < 4096 {
+    if n < BLOCK_BYTES {
         return false;
     }
-    n / 4096 <= 65536
+    n / BLOCK_BYTES <= MOST_BLOCKS as usize
 }
 
 // Whether a map of `n` bytes fits an image of so many blocks.
@@ -40,7 +48,7 @@ pub fn book_fits(n: usize, width: usize) -> bool
     if n % width != 0 {
         return false;
     }
-    n / width <= 1048575
+    n / width <= MOST_PLACES
 }
 
 // Whether both maps fit an image of so many blocks.
@@ -58,13 +66,13 @@ fn maps_fit(blocks: usize, used: usize, retired: usize) -> bool
 fn books_fit(cards: usize, extents: usize, groups: usize) -> bool
     ensures { λ r. ⌜ r ≡ booksRight cards extents groups ⌝ }
 {
-    if !book_fits(cards, 32) {
+    if !book_fits(cards, CARD_BYTES) {
         return false;
     }
-    if !book_fits(extents, 33) {
+    if !book_fits(extents, EXTENT_BYTES) {
         return false;
     }
-    book_fits(groups, 1073)
+    book_fits(groups, GROUP_BYTES)
 }
 
 // Whether the lengths of the buffers but for the head are right.
@@ -81,7 +89,7 @@ pub fn buffers_fit(
     if !image_fits(image) {
         return false;
     }
-    if !maps_fit(image / 4096, used, retired) {
+    if !maps_fit(image / BLOCK_BYTES, used, retired) {
         return false;
     }
     books_fit(cards, extents, groups)
@@ -142,15 +150,15 @@ pub fn lengths_wrong(
     ) {
         return true;
     }
-    if head.len() != 28 {
+    if head.len() != HEAD_BYTES {
         return true;
     }
     !head_right(
         head,
-        (image.len() / 4096) as u64,
-        (cards.len() / 32) as u64,
-        (extents.len() / 33) as u64,
-        (groups.len() / 1073) as u64,
+        (image.len() / BLOCK_BYTES) as u64,
+        (cards.len() / CARD_BYTES) as u64,
+        (extents.len() / EXTENT_BYTES) as u64,
+        (groups.len() / GROUP_BYTES) as u64,
     )
 }
 
@@ -178,11 +186,11 @@ pub fn fresh_length_wrong(
     ) {
         return true;
     }
-    if uuid.len() != 16 {
+    if uuid.len() != UUID_BYTES {
         return true;
     }
-    if head.len() != 28 {
+    if head.len() != HEAD_BYTES {
         return true;
     }
-    ((image.len() / 4096) as u64) < reserved
+    ((image.len() / BLOCK_BYTES) as u64) < reserved
 }

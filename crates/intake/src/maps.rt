@@ -9,6 +9,7 @@ ghost use Rattle.rules.specs.Extent.{extentBytes, decodeExtent};
 ghost use Rattle.rules.specs.Book.{decodeBook};
 ghost use Rattle.book.specs.Places.{recordAt};
 ghost use Rattle.intake.specs.MapTests.{blocksMappable, extentMappable, mapsAlone, mapsRight, placed, Paired, MapsSized};
+use format::extent::EXTENT_BYTES;
 
 // Whether the `count` blocks from `first` on are used, not retired and not reserved.
 fn blocks_mappable(first: u64, count: u32, reserved: usize, used: &[u8], retired: &[u8]) -> bool
@@ -31,7 +32,7 @@ fn extent_mappable(extents: &[u8], i: usize, reserved: usize, used: &[u8], retir
     requires { ⌜ placed (8 * length (now used)) (recordAt decodeExtent extentBytes (now extents) i) ≡ true ⌝ }
     ensures { λ r. ⌜ r ≡ extentMappable reserved (now (used .entry)) (now (retired .entry)) (recordAt decodeExtent extentBytes (now (extents .entry)) i) ⌝ }
 {
-    let e = format::extent::decode_extent(extents, 33 * i);
+    let e = format::extent::decode_extent(extents, EXTENT_BYTES * i);
     blocks_mappable(e.physical, e.count, reserved, used, retired)
 }
 

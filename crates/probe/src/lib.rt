@@ -10,6 +10,9 @@ pub mod allocate;
 pub mod extents;
 pub mod group;
 
+// Bytes of the map of the largest store.
+pub const MAP_BYTES: usize = 8192;
+
 // The CRC-32C of `bytes`.
 #[no_mangle]
 pub extern "C" fn sangueko_probe_crc32c(bytes: &[u8]) -> u32
@@ -40,7 +43,7 @@ pub extern "C" fn sangueko_probe_copy(to: &mut [u8], from: &[u8])
 fn map_bits(map: &[u8]) -> usize
     ensures { λ r. ⌜ r ≡ mapBits (now (map .entry)) ⌝ }
 {
-    if map.len() <= 8192 {
+    if map.len() <= MAP_BYTES {
         return 8 * map.len();
     }
     0
