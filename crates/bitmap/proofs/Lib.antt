@@ -1,2 +1,3 @@
 pub mod BitLaws
 pub mod MapLaws
+pub mod PairLaws

@@ -1,0 +1,2 @@
+pub mod LengthTests
+pub mod MapTests
