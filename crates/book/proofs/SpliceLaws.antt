@@ -95,10 +95,9 @@ module _ {A : Type 0} (decode : List ℕ → A) (w n i k m : ℕ) (s x t : List 
       ∙ ap (λ (a : ℕ). allZero (drop a t)) e6
       ∙ ap (λ (b : List ℕ). allZero (drop (to + w * r) b)) e′
       ∙ ap allZero (drop-patch-behind moved (w * i) (to + w * r) x (omega arith) (omega arith) ∙ sym (drop-drop (w * r) to moved) ∙ ap (drop (w * r)) behind ∙ drop-at tail (z ++ rest) (w * r) lt)
-      ∙ allZero-append z rest (allZero-replicate (w * (i + k) - to)) (zero-rest (to + length (tail ++ z)) (omega arith) (sym (zero-is w n s) ∙ zb)) in
-      (
+      ∙ allZero-append z rest (allZero-replicate (w * (i + k) - to)) (zero-rest (to + length (tail ++ z)) (omega arith) (sym (zero-is w n s) ∙ zb)) in (
         ap (λ (a : ℕ). decodeBook decode w a t) n4 ∙ ap (decodeBook decode w (i + (m + r))) e′ ∙ decodeBook-patch decode w i m r moved x lx (omega arith)
-        ∙ rw (front, back) (sym (append-assoc (take i (decodeBook decode w n s)) (decodeBook decode w m x) (drop (i + k) (decodeBook decode w n s)))),
+            ∙ rw (front, back) (sym (append-assoc (take i (decodeBook decode w n s)) (decodeBook decode w m x) (drop (i + k) (decodeBook decode w n s)))),
         zeros,
         ap length e′ ∙ length-patch moved (w * i) x (omega arith) ∙ lm,
       )

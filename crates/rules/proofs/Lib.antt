@@ -25,3 +25,4 @@ pub mod CountLaws
 pub mod AllocationLaws
 pub mod KeptLaws
 pub mod BytesKept
+pub mod StoreAfter
