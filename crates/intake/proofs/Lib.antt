@@ -1,0 +1,4 @@
+pub mod WalkLaws
+pub mod RecordRules
+pub mod FileLaws
+pub mod BookRules
