@@ -50,7 +50,7 @@ pub fn groups_packed(s: &[u8], n: usize) -> bool
 }
 
 // Whether the card at place `i` follows the one before it.
-fn card_follows(s: &[u8], i: usize) -> bool
+pub fn card_follows(s: &[u8], i: usize) -> bool
     requires { ⌜ 0 < i ⌝ }
     requires { ⌜ cardBytes * i + cardBytes ≤ length (now s) ⌝ }
     ensures { λ r. ⌜ r ≡ cardBefore (recordAt decodeCard cardBytes (now (s .entry)) (i - 1)) (recordAt decodeCard cardBytes (now (s .entry)) i) ⌝ }
@@ -76,7 +76,7 @@ pub fn cards_ordered(s: &[u8], n: usize) -> bool
 }
 
 // Whether the group at place `i` follows the one before it.
-fn group_follows(s: &[u8], i: usize) -> bool
+pub fn group_follows(s: &[u8], i: usize) -> bool
     requires { ⌜ 0 < i ⌝ }
     requires { ⌜ groupBytes * i + groupBytes ≤ length (now s) ⌝ }
     ensures { λ r. ⌜ r ≡ groupBefore (recordAt decodeGroup groupBytes (now (s .entry)) (i - 1)) (recordAt decodeGroup groupBytes (now (s .entry)) i) ⌝ }
@@ -107,7 +107,7 @@ pub fn groups_ordered(s: &[u8], n: usize) -> bool
 }
 
 // Whether an extent stands before the next and keeps apart from it.
-fn extent_follows(e: Extent, next: Extent) -> bool
+pub fn extent_follows(e: Extent, next: Extent) -> bool
     ensures { λ r. ⌜ r ≡ follows (extentOf e) (extentOf next) ⌝ }
 {
     if !e.before(next) {

@@ -1,5 +1,6 @@
 pub mod Opened
 pub mod ListLaws
+pub mod ScanLaws
 pub mod ByteLaws
 pub mod FieldLaws
 pub mod BitLaws
