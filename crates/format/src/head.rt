@@ -24,7 +24,7 @@ pub struct Head {
 }
 
 // The uuid of a head's bytes.
-fn read_uuid(s: &[u8]) -> [u8; UUID_BYTES]
+pub fn read_uuid(s: &[u8]) -> [u8; UUID_BYTES]
     requires { ⌜ uuidBytes ≤ length (now s) ⌝ }
     ensures { λ r. ⌜ r ≡ take uuidBytes (now (s .entry)) ⌝ }
 {
