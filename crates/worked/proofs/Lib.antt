@@ -1,6 +1,6 @@
 pub mod Stores
 pub mod Run
 pub mod Refused
+pub mod WrongLengths
 pub mod BrokenRules
 pub mod KeptBlocks
-pub mod Recorded
