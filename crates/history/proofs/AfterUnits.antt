@@ -16,7 +16,7 @@ use Rattle.rules.specs.Sizes.{blockBytes, unitBlocks, groupUnits}
 use Rattle.rules.specs.Bytes.{part, padded}
 use Rattle.rules.specs.Extent.{Extent, covers, blockOf, mapping}
 use Rattle.rules.specs.Store.{Volume, blockAt}
-use Rattle.rules.specs.Integrity.{mappedBlocks, mappedRight}
+use Rattle.rules.specs.Integrity.{mappedBlocks}
 use Rattle.rules.specs.Units.{Change}
 use Rattle.rules.specs.Inspect.{unitMapping, inspectUnit}
 use Rattle.rules.specs.Inspect.Inspected.{checked}
@@ -24,14 +24,14 @@ use Rattle.rules.specs.Rewrite.{Progress, Rewritten}
 use Rattle.rules.specs.Finish.{newBlocks, finishedExtents, finishedImage, finished}
 use Rattle.rules.proofs.ListLaws.{clash, test-cases, if-true, if-false, and-left, and-right, all-append, all-range-at, map-each, ascending-tail, Each, each-any, each-weaken}
 use Rattle.rules.proofs.CountLaws.{each-range}
-use Rattle.rules.proofs.PassLaws.{Lawful, all-each}
+use Rattle.rules.proofs.PassLaws.{Lawful, all-each, mappable, mapped-all}
 use Rattle.history.proofs.Rewritten.{newMapping, outside, Units, Apart, apart-lawful, newMapping-in, newMapping-behind, newMapping-outside}
 use Rattle.history.proofs.MappingLaws.{covers-true, mapping-yes, mapping-no, mapping-nil}
 use Rattle.history.proofs.ExtentsAfter.{apart-after, mapping-after}
 use Rattle.history.proofs.BackedLaws.{backed-mapping}
 use Rattle.history.proofs.ImageAfter.{LaidOut, other-finishedImage, new-finishedImage}
 use Rattle.history.proofs.GroupsAfter.{unitBefore, units-later, checksum-slot, slot-finished-other, slot-finished-same}
-use Rattle.history.proofs.KeptLaws.{length-assigned, assigned-kept}
+use Rattle.rules.proofs.KeptLaws.{length-assigned, assigned-kept}
 use Rattle.history.proofs.UnitLaws.{getD-mapped, makes-checked, SameUnit, valid-blocks}
 use Rattle.history.proofs.ChangeLaws.{UnitsOf, Becomes, valid-new}
 use Rattle.history.proofs.PlanLaws.{Planned, unitPart}
@@ -101,7 +101,7 @@ module _ {v : Volume} {c : Change} {xs ys : List ℕ} {us : List ℕ} {p : Progr
   mapped-used : (object block b : ℕ) → mapping (v .books .extents) object block ≡ some b → v .used b ≡ true
   mapped-used object block b m =
       and-left (v .used b) (not (v .retired b)) (and-left (v .used b && not (v .retired b)) (leb (v .reserved) b)
-      (mapping-all (λ n. v .used n && not (v .retired n) && leb (v .reserved) n) (v .books .extents) (unfold mappedRight in d .lawful .mapped) object block b m))
+      (mapping-all (mappable v) (v .books .extents) (mapped-all v (d .lawful .mapped)) object block b m))
 
   -- a mapped block is not new
   mapped-kept : (object block b : ℕ) → mapping (v .books .extents) object block ≡ some b → member b (newBlocks rs) ≡ false

@@ -28,10 +28,10 @@ use Rattle.rules.specs.Demand.{Place, placesOf, places, filePlaces}
 use Rattle.rules.proofs.ListLaws.{test-cases, if-true, if-false, if-cases, maybe-some, maybe-none, and-left, and-right, any-index, find-passes, Each, each-any, each-at, each-all, each-weaken}
 use Rattle.rules.proofs.CountLaws.{count-each}
 use Rattle.history.proofs.ReadLaws.{UnitIs, is-hole, is-checked, FileIs, ObjectIs}
-use Rattle.history.proofs.Invariant.{Past, Agrees}
+use Rattle.history.proofs.Invariant.{Past, FilesAgree, BlocksAgree}
 use Rattle.history.proofs.MappingLaws.{mapping-none}
 use Rattle.history.proofs.BackedLaws.{none-unbacked}
-use Rattle.history.proofs.CardsAfter.{cardAfter, cards-are, card-mine, card-theirs, found-after, none-after}
+use Rattle.history.proofs.CardsAfter.{cardAfter, cards-are, size-mine, object-mine, allocated-mine, card-theirs, found-after, none-after}
 use Rattle.history.proofs.UnitLaws.{hole-means, makes-hole, inspect-valid, inspect-unit-same}
 use Rattle.history.proofs.ChangeLaws.{untouched-part, untouched-zeros}
 use Rattle.history.proofs.PlanLaws.{StaysHole, unitPart}
@@ -98,7 +98,7 @@ pub card-of-object : (v : Volume) (o : ℕ) (e : Card) → cardOf v o ≡ some e
 unfolding cardOf
 card-of-object v o e h = eqb-true (e .object) o (find-passes (λ x. eqb (x .object) o) (v .books .cards) e h)
 
-module _ {v : Volume} {c : Change} {xs ys : List ℕ} {us : List ℕ} {p : Progress} {rs : List Rewritten} {q : Progress} {time reserved : ℕ}
+module _ {v : Volume} {c : Change} {xs ys : List ℕ} {us : List ℕ} {p : Progress} {rs : List Rewritten} {q : Progress} {time : Time} {reserved : ℕ}
     (d : Carrying v c xs ys us p rs q) (k : CallRight v c us p time reserved) (start : p .allocated ≡ k .card .allocated) where
   -- the volume that is left
   abbrev w : Volume
@@ -189,9 +189,8 @@ module _ {v : Volume} {c : Change} {xs ys : List ℕ} {us : List ℕ} {p : Progr
     object-after′ : ObjectIs w (c .object) ys
     object-after′ e h =
         let z : e ≡ newCard′ = Option·some-injective e newCard′ (sym h ∙ card-found) in
-        let m = card-mine c (q .allocated) time (k .card) card-object in
-        let s : e .size ≡ length ys = ap (λ (x : Card). x .size) (z ∙ m) ∙ d .becomes .new in
-        let o : e .object ≡ c .object = ap (λ (x : Card). x .object) (z ∙ m) ∙ card-object in
+        let s : e .size ≡ length ys = ap (λ (x : Card). x .size) z ∙ size-mine c (q .allocated) time (k .card) card-object ∙ d .becomes .new in
+        let o : e .object ≡ c .object = ap (λ (x : Card). x .object) z ∙ object-mine c (q .allocated) time (k .card) card-object ∙ card-object in
         (s, rw o file-after)
 
   -- another file stays
@@ -235,18 +234,21 @@ module _ {v : Volume} {c : Change} {xs ys : List ℕ} {us : List ℕ} {p : Progr
       one x i (yes z) =
           let a : x .allocated ≡ k .card .allocated = ap (λ (y : Card). y .allocated) (each-mem (only-card d k) i z) in
           let b : x .allocated ≡ filePlaces v (c .object) = h x i ∙ ap (filePlaces v) z in
-          rw (card-mine c (q .allocated) time x z, z) (omega (arith, a, b, start, file-count, planned-count (d .planned) (k .enough)))
+          rw (allocated-mine c (q .allocated) time x z, object-mine c (q .allocated) time x z, z) (omega (arith, a, b, start, file-count, planned-count (d .planned) (k .enough)))
       one x i (no n) = rw (card-theirs c (q .allocated) time x n) (h x i ∙ sym (other-count (x .object) n))
 
   -- ---- all
 
-  -- what is said stays right
-  pub agrees-after : (files : List File) (f : List ℕ → List ℕ) → f xs ≡ ys → fileBytes files (c .object) ≡ some xs → Agrees files reserved v → Agrees (change (c .object) f files) reserved w
-  agrees-after files f y known a = record {
+  -- what is said of the blocks stays right
+  pub blocks-after : BlocksAgree reserved v → BlocksAgree reserved w
+  blocks-after a = record { given = unfold finished in a .given; onePlace = λ b l. holders-after d reserved (k .onePlace) time b (unfold finished in l) }
+
+  -- and what is said of the files
+  pub files-after : (files : List File) (f : List ℕ → List ℕ) → f xs ≡ ys → fileBytes files (c .object) ≡ some xs → FilesAgree files v → FilesAgree (change (c .object) f files) w
+  files-after files f y known a = record {
     objects = λ o. objects o (ℕ-discrete o (c .object));
     bytes = λ o zs h. bytes o zs h (ℕ-discrete o (c .object));
     slots = λ o u h. slots o u h (ℕ-discrete o (c .object));
-    onePlace = λ b l. holders-after d reserved (k .onePlace) time b (unfold finished in l);
     counts = counts-after (a .counts);
   }
     where
@@ -271,6 +273,6 @@ module _ {v : Volume} {c : Change} {xs ys : List ℕ} {us : List ℕ} {p : Progr
 
       slots : (o u : ℕ) → Past w o u → Dec (o ≡ c .object) → checksumOf w o u ≡ none
       slots o u h (yes e) =
-          let m : c .newSize ≤ u * unitBytes = omega (arith, h newCard′ (rw e card-found), ap (λ (x : Card). x .size) (card-mine c (q .allocated) time (k .card) card-object)) in
+          let m : c .newSize ≤ u * unitBytes = omega (arith, h newCard′ (rw e card-found), size-mine c (q .allocated) time (k .card) card-object) in
           rw e (unit-stays d time (c .object) u (λ z. each-weaken (λ r i y. omega (arith, i .inside, m)) (made-all d)) .slot ∙ past u (omega (arith, m, d .becomes .old, d .becomes .new, d .becomes .more)))
       slots o u h (no n) = unit-stays d time o u (λ z. absurd (n z)) .slot ∙ a .slots o u (λ e t. h e (card-other′ o n ∙ t))

@@ -16,18 +16,18 @@ use Rattle.rules.specs.Rewrite.{Rewritten}
 use Rattle.rules.specs.Finish.{newBlocks, supersededBlocks, finishedExtents}
 use Rattle.rules.specs.Demand.{Place, placesOf}
 use Rattle.rules.proofs.ListLaws.{test-cases, and-intro, count-append, count-no, ascending-first, ascending-tail, Each, each-none, each-more, each-any}
-use Rattle.rules.proofs.CountLaws.{count-each, count-none, member-cons, member-nil}
+use Rattle.rules.proofs.CountLaws.{count-each, count-none, member-cons, member-nil, count-cons, count-nil}
 use Rattle.history.proofs.Rewritten.{outside, blockPlaces, newPlaces, Apart}
 use Rattle.history.proofs.ApartLaws.{laid-of}
 use Rattle.history.proofs.ExtentsAfter.{places-after}
 use Rattle.history.proofs.ImageAfter.{new-cons}
 use Rattle.history.proofs.GroupsAfter.{unitBefore}
-use Rattle.history.proofs.KeptLaws.{there, count-superseded, count-assigned}
+use Rattle.rules.proofs.KeptLaws.{there, count-superseded, count-assigned}
 use Rattle.history.proofs.PlaceCounts.{total, count-units}
 use Rattle.history.proofs.UnitLaws.{valid-blocks}
 use Rattle.history.proofs.PlanLaws.{unitOld, length-old}
 use Rattle.history.proofs.PlannedLaws.{Made, superseded-cons}
-use Rattle.history.proofs.MoreLists.{count-cons, count-nil, count-parts, once-ascending}
+use Rattle.history.proofs.MoreLists.{count-parts, once-ascending}
 
 -- the units that are rewritten
 abbrev unitsIn : List Rewritten → List ℕ

@@ -23,14 +23,14 @@ use Rattle.rules.specs.Finish.{newBlocks, supersededBlocks, finishedExtents, fi
 use Rattle.rules.specs.Demand.{Place, placesOf, places, holders}
 use Rattle.rules.proofs.ListLaws.{clash, test-cases, and-left, and-right, and-intro, or-cases, or-left, or-right, all-range-at, all-range-of, Each, each-none, each-more, each-all, each-append, each-weaken}
 use Rattle.rules.proofs.CountLaws.{member-count, member-each}
-use Rattle.rules.proofs.PassLaws.{all-each}
+use Rattle.rules.proofs.PassLaws.{all-each, mappable, mapped-all, all-mapped}
 use Rattle.history.proofs.HolderLaws.{retired-used}
 use Rattle.history.proofs.Rewritten.{outside, blockPlaces, newPlaces}
 use Rattle.history.proofs.ApartLaws.{each-filter}
 use Rattle.history.proofs.ExtentsAfter.{each-place-after}
 use Rattle.history.proofs.ExtentsFromPlaces.{mapped-places}
 use Rattle.history.proofs.ImageAfter.{LaidOut, assigned-new}
-use Rattle.history.proofs.KeptLaws.{length-assigned, assigned-kept}
+use Rattle.rules.proofs.KeptLaws.{length-assigned, assigned-kept}
 use Rattle.history.proofs.UnitLaws.{getD-mapped, valid-blocks}
 use Rattle.history.proofs.PlannedLaws.{Made, made-blocks, planned-free, planned-once}
 use Rattle.history.proofs.BalanceLaws.{balance, superseded-places}
@@ -93,24 +93,20 @@ tally-all true e = refl
 tally-all false e = absurd (omega arith)
 
 module _ {v : Volume} {c : Change} {xs ys : List ℕ} {us : List ℕ} {p : Progress} {rs : List Rewritten} {q : Progress} (d : Carrying v c xs ys us p rs q) where
-  -- what a mapped block is
-  abbrev mappable : ℕ → Bool
-  mappable n = v .used n && not (v .retired n) && leb (v .reserved) n
-
   -- each place's block is such
-  places-mappable : Each (λ x. mappable (x .block) ≡ true) (flatMap placesOf (v .books .extents))
-  places-mappable = each-all (λ x. mappable (x .block)) (λ x t. t) (flatMap placesOf (v .books .extents)) (sym (mapped-places mappable (v .books .extents)) ∙ (unfold mappedRight in d .lawful .mapped))
+  places-mappable : Each (λ x. mappable v (x .block) ≡ true) (flatMap placesOf (v .books .extents))
+  places-mappable = each-all (λ x. mappable v (x .block)) (λ x t. t) (flatMap placesOf (v .books .extents)) (sym (mapped-places (mappable v) (v .books .extents)) ∙ mapped-all v (d .lawful .mapped))
 
   -- such a block is used
-  mappable-used : (b : ℕ) → mappable b ≡ true → v .used b ≡ true
+  mappable-used : (b : ℕ) → mappable v b ≡ true → v .used b ≡ true
   mappable-used b t = and-left (v .used b) (not (v .retired b)) (and-left (v .used b && not (v .retired b)) (leb (v .reserved) b) t)
 
   -- such a block is not retired
-  mappable-kept : (b : ℕ) → mappable b ≡ true → v .retired b ≡ false
+  mappable-kept : (b : ℕ) → mappable v b ≡ true → v .retired b ≡ false
   mappable-kept b t = not-true (v .retired b) (and-right (v .used b) (not (v .retired b)) (and-left (v .used b && not (v .retired b)) (leb (v .reserved) b) t))
 
   -- such a block is not reserved
-  mappable-past : (b : ℕ) → mappable b ≡ true → v .reserved ≤ b
+  mappable-past : (b : ℕ) → mappable v b ≡ true → v .reserved ≤ b
   mappable-past b t = leb-true (v .reserved) b (and-right (v .used b && not (v .retired b)) (leb (v .reserved) b) t)
 
   -- a used block is one of the device's
@@ -130,9 +126,9 @@ module _ {v : Volume} {c : Change} {xs ys : List ℕ} {us : List ℕ} {p : Progr
   superseded-counted b = omega (arith, superseded-places v c ys (λ x. eqb x b) (λ o. true) rs (apart-old d) refl (made-all d) (in-order d), count-turn b (supersededBlocks rs))
 
   -- a superseded block was mapped
-  superseded-mapped : (b : ℕ) → member b (supersededBlocks rs) ≡ true → mappable b ≡ true
+  superseded-mapped : (b : ℕ) → member b (supersededBlocks rs) ≡ true → mappable v b ≡ true
   superseded-mapped b m =
-      all-counted (λ x. x .block) mappable b places-mappable
+      all-counted (λ x. x .block) (mappable v) b places-mappable
       (omega (arith, superseded-counted b, ltb-true 0 (count (eqb b) (supersededBlocks rs)) (sym (member-count b (supersededBlocks rs)) ∙ m)))
 
   -- a new block was not used
@@ -164,7 +160,7 @@ module _ {v : Volume} {c : Change} {xs ys : List ℕ} {us : List ℕ} {p : Progr
           let n : getD (r .blocks) i 0 ≡ b = ap (λ (bs : List ℕ). getD bs i 0) (k .blocks) ∙ assigned-kept (r .kept) (r .new) (k .many) i b e in
           let o : mapping (v .books .extents) (c .object) (r .unit * unitBlocks + i) ≡ some b =
           sym (getD-mapped v (c .object) (r .unit) unitBlocks i (omega (arith, made-blocks m, valid-blocks (c .newSize) (r .unit)))) ∙ m .right .keeps i b e in
-          let t : mappable b ≡ true = mapping-all mappable (v .books .extents) (unfold mappedRight in d .lawful .mapped) (c .object) (r .unit * unitBlocks + i) b o in
+          let t : mappable v b ≡ true = mapping-all (mappable v) (v .books .extents) (mapped-all v (d .lawful .mapped)) (c .object) (r .unit * unitBlocks + i) b o in
           rw n (record { below = used-below b (mappable-used b t); past = mappable-past b t })
 
   -- each new place's block is
@@ -209,10 +205,10 @@ module _ {v : Volume} {c : Change} {xs ys : List ℕ} {us : List ℕ} {p : Progr
 
     -- mapped blocks keep the rule
     pub mapped-after-right : mappedRight (finished c time rs q v) ≡ true
-    unfolding mappedRight finished
-    mapped-after-right =
+    unfolding finished
+    mapped-after-right = all-mapped (finished c time rs q v) (
         mapped-places fit′ (finishedExtents (c .object) rs (v .books .extents))
-        ∙ all-each (λ x. fit′ (x .block)) (each-of-mem after-places (λ x m. fits x m (each-mem sited-after m)))
+        ∙ all-each (λ x. fit′ (x .block)) (each-of-mem after-places (λ x m. fits x m (each-mem sited-after m))))
       where
         fits : (x : Place) → List·Memᴰ x after-places → Sited v (x .block) → fit′ (x .block) ≡ true
         fits x m s =

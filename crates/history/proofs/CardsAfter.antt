@@ -6,7 +6,7 @@ use mathlib.Core.Bool.{true, _&&_}
 use mathlib.Core.Option.{none, some, Option·some-injective}
 use Prim.Native.Nat.{ℕ, _^_, _≤_, _<_}
 use native.Mathlib.Omega.{arith}
-use lib.Dec.{eqb, ltb, leb}
+use lib.Dec.{eqb, leb}
 use lib.ListN.{length, length-map}
 use borrow.Author.Tests.{eqb-true, eqb-false, eq-eqb, ne-eqb, ltb-true, lt-ltb, leb-true, le-leb}
 use Rattle.rules.specs.Time.{Time}
@@ -14,9 +14,9 @@ use Rattle.rules.specs.Lists.{if_then_else_, maybe, all, find, ascending, begun
 use Rattle.rules.specs.Sizes.{blockBytes, nanosecondsBound}
 use Rattle.rules.specs.Card.{Card, cardBefore}
 use Rattle.rules.specs.Extent.{Extent, extentEnd}
-use Rattle.rules.specs.Integrity.{inFile}
+use Rattle.rules.specs.Integrity.{inFile, cardTimesRight}
 use Rattle.rules.specs.Units.{Change}
-use Rattle.rules.specs.Finish.{finishedCards}
+use Rattle.rules.specs.Finish.{finishedCards, changedCard}
 use Rattle.rules.proofs.ListLaws.{test-cases, if-true, if-false, if-cases, maybe-some, maybe-none, and-left, and-right, and-intro, all-map, all-weaken, any-map, find-yes, find-no, ascending-tail, ascending-all, Each, each-none, each-more, each-map, each-all, each-weaken}
 use Rattle.rules.proofs.CardLaws.{CardFits}
 use Rattle.history.proofs.MoreLists.{any-each, ascending-through, find-through}
@@ -37,9 +37,7 @@ card-only object k (x ∷ cs) a e =
 module _ (c : Change) (allocated : ℕ) (time : Time) where
   -- a card after the change
   unfoldable pub cardAfter : Card → Card
-  cardAfter d = if eqb (d .object) (c .object)
-      then record { object = d .object; size = c .newSize; allocated = allocated; seconds = seconds; nanoseconds = nanoseconds }
-      else d
+  cardAfter d = if eqb (d .object) (c .object) then changedCard (c .newSize) allocated time d else d
 
   -- the cards are these
   pub cards-are : (cs : List Card) → finishedCards c allocated time cs ≡ map cardAfter cs
@@ -47,9 +45,24 @@ module _ (c : Change) (allocated : ℕ) (time : Time) where
   cards-are cs = refl
 
   -- the file's card after the change
-  pub card-mine : (d : Card) → d .object ≡ c .object → cardAfter d ≡ record { object = d .object; size = c .newSize; allocated = allocated; seconds = seconds; nanoseconds = nanoseconds }
+  pub card-mine : (d : Card) → d .object ≡ c .object → cardAfter d ≡ changedCard (c .newSize) allocated time d
   unfolding cardAfter
   card-mine d e = if-true (eqb (d .object) (c .object)) _ d (eq-eqb (d .object) (c .object) e)
+
+  -- with its new size
+  pub size-mine : (d : Card) → d .object ≡ c .object → cardAfter d .size ≡ c .newSize
+  unfolding changedCard
+  size-mine d e = ap (λ (x : Card). x .size) (card-mine d e)
+
+  -- its object
+  pub object-mine : (d : Card) → d .object ≡ c .object → cardAfter d .object ≡ d .object
+  unfolding changedCard
+  object-mine d e = ap (λ (x : Card). x .object) (card-mine d e)
+
+  -- and its new count
+  pub allocated-mine : (d : Card) → d .object ≡ c .object → cardAfter d .allocated ≡ allocated
+  unfolding changedCard
+  allocated-mine d e = ap (λ (x : Card). x .allocated) (card-mine d e)
 
   -- a card of another file stays
   pub card-theirs : (d : Card) → (d .object ≡ c .object → ⊥) → cardAfter d ≡ d
@@ -58,7 +71,7 @@ module _ (c : Change) (allocated : ℕ) (time : Time) where
 
   -- a card's object stays
   pub object-after : (d : Card) → cardAfter d .object ≡ d .object
-  unfolding cardAfter
+  unfolding cardAfter changedCard
   object-after d = if-cases (λ (x : Card). x .object ≡ d .object) (eqb (d .object) (c .object)) _ d (λ e. refl) (λ e. refl)
 
   -- what is found is what was, put through
@@ -83,22 +96,21 @@ module _ (c : Change) (allocated : ℕ) (time : Time) where
   cards-length cs = ap length (cards-are cs) ∙ length-map cs cardAfter
 
   -- and right times
-  pub cards-times : nanoseconds < nanosecondsBound → (cs : List Card) → all (λ d. ltb (d .nanoseconds) nanosecondsBound) cs ≡ true
-      → all (λ d. ltb (d .nanoseconds) nanosecondsBound) (finishedCards c allocated time cs) ≡ true
+  pub cards-times : time .nanoseconds < nanosecondsBound → (cs : List Card) → all cardTimesRight cs ≡ true → all cardTimesRight (finishedCards c allocated time cs) ≡ true
   cards-times l cs h =
-      rw (cards-are cs, all-map (λ d. ltb (d .nanoseconds) nanosecondsBound) cardAfter cs)
-      (all-weaken (λ d. ltb (cardAfter d .nanoseconds) nanosecondsBound) (λ d. ltb (d .nanoseconds) nanosecondsBound) cs one h)
+      rw (cards-are cs, all-map cardTimesRight cardAfter cs) (all-weaken (λ d. cardTimesRight (cardAfter d)) cardTimesRight cs one h)
     where
-      one : (d : Card) → ltb (d .nanoseconds) nanosecondsBound ≡ true → ltb (cardAfter d .nanoseconds) nanosecondsBound ≡ true
-      one d t = unfold cardAfter in if-cases (λ (x : Card). ltb (x .nanoseconds) nanosecondsBound ≡ true) (eqb (d .object) (c .object)) _ d (λ e. lt-ltb nanotimeBound l) (λ e. t)
+      one : (d : Card) → cardTimesRight d ≡ true → cardTimesRight (cardAfter d) ≡ true
+      one d t = unfold cardAfter in if-cases (λ (x : Card). cardTimesRight x ≡ true) (eqb (d .object) (c .object)) _ d
+          (λ e. unfold cardTimesRight changedCard in lt-ltb (time .nanoseconds) nanosecondsBound l) (λ e. t)
 
   -- its numbers in range
-  pub cards-fit : c .newSize < 2 ^ 63 → allocated < 2 ^ 35 → seconds < 2 ^ 63 → nanoseconds < 2 ^ 30 → (cs : List Card) → Each CardFits cs
+  pub cards-fit : c .newSize < 2 ^ 63 → allocated < 2 ^ 35 → time .seconds < 2 ^ 63 → time .nanoseconds < 2 ^ 30 → (cs : List Card) → Each CardFits cs
       → Each CardFits (finishedCards c allocated time cs)
   cards-fit z a s n cs h = rw (cards-are cs) (each-map cardAfter (each-weaken one h))
     where
       one : (d : Card) → CardFits d → CardFits (cardAfter d)
-      one d f = unfold cardAfter in if-cases CardFits (eqb (d .object) (c .object)) _ d (λ e. record { object = f .object; size = z; allocated = a; seconds = s; nanoseconds = n }) (λ e. f)
+      one d f = unfold cardAfter in if-cases CardFits (eqb (d .object) (c .object)) _ d (λ e. unfold changedCard in record { object = f .object; size = z; allocated = a; seconds = s; nanoseconds = n }) (λ e. f)
 
   -- an extent stays in its file, which is not shorter
   pub file-stays : {cs : List Card} → Each (λ d. d .object ≡ c .object → d .size ≤ c .newSize) cs → (e : Extent) → inFile cs e ≡ true → inFile (finishedCards c allocated time cs) e ≡ true
@@ -107,7 +119,7 @@ module _ (c : Change) (allocated : ℕ) (time : Time) where
     where
       one : (d : Card) → (d .object ≡ c .object → d .size ≤ c .newSize) → (eqb (d .object) (e .object) && leb (extentEnd e) (begun (d .size) blockBytes)) ≡ true
           → (eqb (cardAfter d .object) (e .object) && leb (extentEnd e) (begun (cardAfter d .size) blockBytes)) ≡ true
-      one d l k = unfold cardAfter in
+      one d l k = unfold cardAfter changedCard in
           if-cases (λ (x : Card). (eqb (x .object) (e .object) && leb (extentEnd e) (begun (x .size) blockBytes)) ≡ true) (eqb (d .object) (c .object)) _ d
           (λ q. let m : d .size ≤ c .newSize = l (eqb-true (d .object) (c .object) q) in
           let n : extentEnd e ≤ begun (d .size) blockBytes = leb-true (extentEnd e) (begun (d .size) blockBytes) (and-right (eqb (d .object) (e .object)) (leb (extentEnd e) (begun (d .size) blockBytes)) k) in

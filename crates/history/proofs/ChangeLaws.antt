@@ -14,11 +14,12 @@ use borrow.Author.Tests.{eqb-true, eqb-false, eq-eqb, ltb-true, ltb-false, le-lt
 use Rattle.rules.specs.Lists.{range, filter, member, ascending, begun, neighbours}
 use Rattle.rules.specs.Sizes.{blockBytes, unitBytes, mostTransfer}
 use Rattle.rules.specs.Bytes.{part, patch, padded}
-use Rattle.rules.specs.Units.{Change, changeEnd, clipped, writeChange, growChange, unitsOf, touchedUnits, partialTail, writeUnits, growUnits, validLength, writtenIn, coversOld, readsOld, writtenFrom, writtenTo, writtenPart, touches, assembled}
+use Rattle.rules.specs.Units.{Change, changeEnd, clipped, writeChange, growChange, touchedUnits, partialTail, writeUnits, growUnits, validLength, writtenIn, coversOld, readsOld, writtenFrom, writtenTo, writtenPart, touches, assembled}
 use Rattle.rules.specs.Kept.{intact}
 use Rattle.rules.specs.Plain.{overwrite}
 use Rattle.rules.proofs.ListLaws.{clash, test-cases, if-cases, and-left, and-right, and-intro, or-none-right, or-none-left, filter-yes, filter-no, length-range, Each, each-none, each-more, each-weaken}
 use Rattle.rules.proofs.ByteLaws.{length-part, getD-part, length-patch, getD-patch, getD-patch-before, getD-patch-behind, length-padded, part-part}
+use Rattle.rules.proofs.UnitListLaws.{unitsOf-some}
 use Rattle.rules.proofs.CountLaws.{member-cons, member-range-of, each-range, ascending-cons}
 use Rattle.history.proofs.MoreBytes.{getD-padded, getD-patch-after, length-part-min, length-patch-past, zero-part}
 
@@ -372,11 +373,11 @@ module _ (object old offset : ℕ) (bytes : List ℕ) (s : 0 < length (clipped b
 
   -- a write's units are such a list
   pub units-write : UnitsOf wc (writeUnits wc)
-  units-write = unfold writeUnits touchedUnits unitsOf changeEnd writeChange partialTail in
+  units-write = unfold writeUnits touchedUnits changeEnd writeChange partialTail in rw (unitsOf-some offset we (omega (arith, s))) (
       if-cases (λ (front : List ℕ). UnitsOf wc (front ++ wt)) (ltb old wn) _ []
       (λ l. if-cases (λ (ts : List ℕ). UnitsOf wc (filter (λ u. not (member u wt)) ts ++ wt)) (eqb (old % unitBytes) 0) [] (old / unitBytes ∷ [])
       (λ e. unfold filter in bare (λ u m. valid-same old wn u (omega arith) (inl (eqb-true (old % unitBytes) 0 e))))
       (λ e. test-cases (UnitsOf wc (filter (λ u. not (member u wt)) (old / unitBytes ∷ []) ++ wt)) (member (old / unitBytes) wt)
       (λ m. rw (filter-no (λ u. not (member u wt)) (old / unitBytes) [] (ap not m)) (unfold filter in bare (λ u k. valid-same old wn u (omega arith) (inr (λ q. clash k (rw q m))))))
       (λ m. rw (filter-yes (λ u. not (member u wt)) (old / unitBytes) [] (ap not m)) (unfold filter in full (omega (arith, ltb-true old wn l)) (eqb-false (old % unitBytes) 0 e) m))))
-      (λ l. bare (λ u m. inl (ap (λ (n : ℕ). validLength n u) (omega (arith, ltb-false old wn l)))))
+      (λ l. bare (λ u m. inl (ap (λ (n : ℕ). validLength n u) (omega (arith, ltb-false old wn l))))))

@@ -11,12 +11,13 @@ use native.Mathlib.Omega.{arith}
 use lib.Dec.{eqb}
 use lib.ListN.{length, take, length-take}
 use borrow.Author.Tests.{eq-eqb, ne-eqb}
+use Rattle.rules.specs.Write.{planOf, writeOutcome, growOutcome}
 use Rattle.rules.specs.Time.{Time}
 use Rattle.rules.specs.Lists.{if_then_else_, given, count, any, member}
 use Rattle.rules.specs.Sizes.{blockBytes, unitBlocks, mostBlocks, mostRuns, mostSize, mostTransfer}
 use Rattle.rules.specs.Bytes.{Bytes, padded}
 use Rattle.rules.specs.Card.{Card}
-use Rattle.rules.specs.Store.{Store, Volume, decode, decodeWith, headOf, encodeInto, imageBlocks, cardOf}
+use Rattle.rules.specs.Store.{Store, StoreBytes, Volume, decode, decodeWith, headOf, encodeInto, imageBlocks, cardOf}
 use Rattle.rules.specs.Integrity.{onDevice}
 use Rattle.rules.specs.Refusal.{Refusal, Outcome, numberOf, result}
 use Rattle.rules.specs.Refusal.Refusal.{no-space}
@@ -26,7 +27,7 @@ use Rattle.rules.specs.Inspect.{unitMapping}
 use Rattle.rules.specs.Rewrite.{Progress, Rewritten, Plan, rewriteUnits}
 use Rattle.rules.specs.Rewrite.Plan.{refused, planned}
 use Rattle.rules.specs.Finish.{finished}
-use Rattle.rules.specs.Call.{InRange, call, lentOut, outcome}
+use Rattle.rules.specs.Call.{InRange, call}
 use Rattle.rules.specs.Call.Call.{write, grow}
 use Rattle.rules.specs.Plain.{File, change, overwrite, accepted, fileBytes}
 use Rattle.rules.specs.Demand.{Place, placesOf, places, filePlaces, neverNumbers}
@@ -40,14 +41,14 @@ use Rattle.history.proofs.FileCallLaws.{FileCall, Carried, Written, Gro
 use Rattle.history.proofs.Invariant.{Inv, inv-says, known-object, ChangesRight}
 use Rattle.history.proofs.Rewritten.{apart-lawful}
 use Rattle.history.proofs.ApartLaws.{laid-of}
-use Rattle.history.proofs.KeptLaws.{there}
+use Rattle.rules.proofs.KeptLaws.{there}
 use Rattle.history.proofs.PlaceCounts.{total, total-each, count-units}
 use Rattle.history.proofs.UnitLaws.{mapping-below, length-blockAt}
 use Rattle.history.proofs.ChangeLaws.{Becomes, UnitsOf, write-becomes, grow-becomes, units-write, units-grow}
 use Rattle.history.proofs.PlanLaws.{Planned, PlanIs, plan-full, plan-done, Enough, Known, plan-is, unitOld}
 use Rattle.history.proofs.AfterUnits.{Carrying}
 use Rattle.history.proofs.VolumeAfter.{bytes-file, bytes-becomes, CallRight, says-after}
-use Rattle.history.proofs.AgreesAfter.{bytes-mine, bytes-theirs, card-of-object, agrees-after}
+use Rattle.history.proofs.AgreesAfter.{bytes-mine, bytes-theirs, card-of-object, files-after, blocks-after}
 use Rattle.history.proofs.MoreLists.{count-all, each-mem, once-ascending}
 use Rattle.history.proofs.MoreBytes.{padded-whole}
 
@@ -77,7 +78,7 @@ record ChangeOf (files : List File) (s : Store) (card : Card) (c : Change) (xs y
   becomes : Becomes c xs ys
   units : UnitsOf c us
 
-module _ {files : List File} {reserved : ℕ} {s : Store} (h : Inv files reserved s) {card : Card} {c : Change} {xs ys us : List ℕ} (g : ChangeOf files s card c xs ys us) where
+module _ {files : List File} {reserved : ℕ} {s : Store} (b : StoreBytes s) (h : Inv files reserved s) {card : Card} {c : Change} {xs ys us : List ℕ} (g : ChangeOf files s card c xs ys us) where
   -- the volume that the store says
   abbrev vol : Volume
   vol = decode s
@@ -112,20 +113,20 @@ module _ {files : List File} {reserved : ℕ} {s : Store} (h : Inv files reserve
   known-file : Known vol c xs ys
   known-file = record {
     becomes = g .becomes;
-    file = rw object-is at (h .agrees .bytes (c .object) xs (g .array) card (g .known) .1);
+    file = rw object-is at (h .filesAgree .bytes (c .object) xs (g .array) card (g .known) .1);
     whole = λ b q m. length-blockAt (vol .image) (vol .blocks) q whole-image (mapping-below (vol .blocks) (vol .books .extents) (unfold onDevice in lawful .device) (c .object) b q m);
   }
 
   -- the card's count is that of the file's places
   count-is : card .allocated ≡ filePlaces vol (c .object)
-  count-is = h .agrees .counts card (find-mem (λ x. eqb (x .object) (c .object)) (vol .books .cards) card (unfold cardOf in g .known)) ∙ ap (filePlaces vol) object-is
+  count-is = h .filesAgree .counts card (find-mem (λ x. eqb (x .object) (c .object)) (vol .books .cards) card (unfold cardOf in g .known)) ∙ ap (filePlaces vol) object-is
 
   -- enough for all units
   enough : Enough vol c us first
   unfolding unitMapping
   enough = record {
     least = omega (arith, units-count, count-is, places-most);
-    most = omega (arith, count-is, filePlaces-most reserved vol lawful (h .agrees .onePlace) (c .object), few-blocks, g .units .few);
+    most = omega (arith, count-is, filePlaces-most reserved vol lawful (h .blocksAgree .onePlace) (c .object), few-blocks, g .units .few);
   }
     where
       in-units : Place → Bool
@@ -146,8 +147,8 @@ module _ {files : List File} {reserved : ℕ} {s : Store} (h : Inv files reserve
   -- the change is kept
   inv-change : (limit answer : ℕ) (time : Time) → TimeRight time → c .newSize ≤ mostSize → Bytes (c .bytes) → (f : List ℕ → List ℕ) → f xs ≡ ys
       → (o : Outcome) → Carried answer c time s (rewriteUnits limit vol c us first) o → Inv (change (c .object) f files) reserved (result s [] o .store)
-  inv-change limit answer time time end w f y o r =
-      rw (r .done) (unfold result in inv-says (change (c .object) f files) reserved (encodeInto s left) left says (agrees-after d k refl files f y (g .array) (h .agrees)))
+  inv-change limit answer time timely end w f y o r =
+      rw (r .done) (unfold result in inv-says (change (c .object) f files) reserved (encodeInto s left) left says (files-after d k refl files f y (g .array) (h .filesAgree)) (blocks-after d k refl (h .blocksAgree)))
     where
       left : Volume
       left = finished c time (r .units) (r .progress) vol
@@ -159,7 +160,7 @@ module _ {files : List File} {reserved : ℕ} {s : Store} (h : Inv files reserve
         units = g .units;
         planned = planned-is (plan-is limit vol c xs ys known-file us first enough) (r .units) (r .progress) (r .plan);
         image = omega (arith, whole-image);
-        slots = each-weaken (λ g f. f .slots) (decode-fits s (h .passes) (h .bytes) .groups);
+        slots = each-weaken (λ g f. f .slots) (decode-fits s (h .passes) b .groups);
       }
 
       k : CallRight vol c us first time reserved
@@ -167,20 +168,20 @@ module _ {files : List File} {reserved : ℕ} {s : Store} (h : Inv files reserve
         card = card;
         known = g .known;
         size = g .size;
-        fits = decode-fits s (h .passes) (h .bytes);
+        fits = decode-fits s (h .passes) b;
         few = few-blocks;
-        onePlace = h .agrees .onePlace;
-        time = time;
+        onePlace = h .blocksAgree .onePlace;
+        timely = timely;
         end = end;
         enough = enough;
         hint = hint;
       }
         where
           hint : vol .hint < 4
-          hint = unfold headOf in decode-fits s (h .passes) (h .bytes) .head .hint
+          hint = unfold headOf in decode-fits s (h .passes) b .head .hint
 
       image : Bytes (vol .image)
-      image = unfold decode decodeWith in h .bytes .image
+      image = unfold decode decodeWith in b .image
 
       says : Says (encodeInto s left) left
       says = says-after d k s (room-decode s (h .passes)) image (bytes-becomes c xs ys (g .becomes) (bytes-file vol (c .object) xs (known-file .file) image) w)
@@ -188,7 +189,7 @@ module _ {files : List File} {reserved : ℕ} {s : Store} (h : Inv files reserve
 
 -- ---- write and grow
 
-module _ (files : List File) (reserved : ℕ) (s : Store) (h : Inv files reserved s) (object : ℕ) (card : Card) (known : cardOf (decode s) object ≡ some card) where
+module _ (files : List File) (reserved : ℕ) (s : Store) (b : StoreBytes s) (h : Inv files reserved s) (object : ℕ) (card : Card) (known : cardOf (decode s) object ≡ some card) where
   -- the card is of the object
   mine : card .object ≡ object
   mine = card-of-object (decode s) object card known
@@ -207,13 +208,13 @@ module _ (files : List File) (reserved : ℕ) (s : Store) (h : Inv files reserve
 
   -- as long as the card says
   size-own : card .size ≡ length plainOf
-  size-own = h .agrees .bytes object plainOf (known-object files reserved s h object card known .1) card known .0
+  size-own = h .filesAgree .bytes object plainOf (known-object files reserved s h object card known .1) card known .0
 
   -- at most so long as a file can be
   size-most : card .size ≤ mostSize
   size-most =
       let m = find-mem (λ x. eqb (x .object) object) (decode s .books .cards) card (unfold cardOf in known) in
-      omega (arith, each-mem (decode-fits s (h .passes) (h .bytes) .cards) m .size)
+      omega (arith, each-mem (decode-fits s (h .passes) b .cards) m .size)
 
   -- the change of a write
   write-change : (offset : ℕ) (bytes : List ℕ) → (length bytes ≡ 0 → ⊥)
@@ -243,18 +244,18 @@ module _ (files : List File) (reserved : ℕ) (s : Store) (h : Inv files reserve
   }
 
   -- a write that was carried out keeps it
-  write-done : (offset : ℕ) (bytes : List ℕ) (time : Time) (o : Outcome) → Bytes bytes → Written mostRuns offset bytes time s card o
+  write-done : (limit offset : ℕ) (bytes : List ℕ) (time : Time) (o : Outcome) → Bytes bytes → Written limit offset bytes time s card o
       → Inv (change object (overwrite offset (take mostTransfer bytes)) files) reserved (result s [] o .store)
-  write-done offset bytes time o b w =
+  write-done limit offset bytes time o k w =
       subst (λ (n : ℕ). Inv (change n (overwrite offset (take mostTransfer bytes)) files) reserved (result s [] o .store)) mine
-      (unfold writeChange in inv-change h (write-change offset bytes (w .some)) mostRuns (length (clipped bytes)) time (w .time) (omega (arith, w .end, size-most))
-      (unfold clipped in bytes-take mostTransfer bytes b) (overwrite offset (take mostTransfer bytes)) refl o (w .carried))
+      (unfold writeChange in inv-change b h (write-change offset bytes (w .some)) limit (length (clipped bytes)) time (w .timely) (omega (arith, w .end, size-most))
+      (unfold clipped in bytes-take mostTransfer bytes k) (overwrite offset (take mostTransfer bytes)) refl o (unfold planOf in w .carried))
 
   -- and so does a grow
   grow-done : (size : ℕ) (time : Time) (o : Outcome) → Grown size time s card o → Inv (change object (padded size) files) reserved (result s [] o .store)
   grow-done size time o w =
       subst (λ (n : ℕ). Inv (change n (padded size) files) reserved (result s [] o .store)) mine
-      (unfold growChange in inv-change h (grow-change size (w .more)) mostRuns 0 time (w .time) (w .end) bytes-nil (padded size) refl o (w .carried))
+      (unfold growChange in inv-change b h (grow-change size (w .more)) mostRuns 0 time (w .timely) (w .end) bytes-nil (padded size) refl o (unfold planOf in w .carried))
 
   -- a grow to the size that there is leaves the array as it is
   grow-none : (size : ℕ) → size ≡ card .size → (n : ℕ) → Dec (n ≡ object) → fileBytes (change object (padded size) files) n ≡ fileBytes files n
@@ -267,61 +268,60 @@ module _ (files : List File) (reserved : ℕ) (s : Store) (h : Inv files reserve
 -- only what the plain arrays say counts
 inv-same : (files news : List File) (reserved : ℕ) (s : Store) → ((o : ℕ) → fileBytes news o ≡ fileBytes files o) → Inv files reserved s → Inv news reserved s
 inv-same files news reserved s e h = record {
-  bytes = h .bytes;
   passes = h .passes;
-  agrees = record {
-    objects = λ o. ap given (e o) ∙ h .agrees .objects o;
-    bytes = λ o xs k. h .agrees .bytes o xs (sym (e o) ∙ k);
-    slots = h .agrees .slots;
-    onePlace = h .agrees .onePlace;
-    counts = h .agrees .counts;
+  filesAgree = record {
+    objects = λ o. ap given (e o) ∙ h .filesAgree .objects o;
+    bytes = λ o xs k. h .filesAgree .bytes o xs (sym (e o) ∙ k);
+    slots = h .filesAgree .slots;
+    counts = h .filesAgree .counts;
   };
+  blocksAgree = h .blocksAgree;
 }
 
--- an accepted write keeps it
-write-keeps : (object offset : ℕ) (bytes : List ℕ) (time : Time) (files : List File) (reserved : ℕ) (s : Store)
-    → InRange (write object offset bytes time) → call (write object offset bytes time) s .number ≡ 0 → Inv files reserved s
-    → Inv (accepted (write object offset bytes time) files) reserved (call (write object offset bytes time) s .store)
-unfolding call lentOut accepted
-write-keeps object offset bytes time files reserved s i e h = go (r .done)
+-- an accepted write keeps it, with any limit of runs
+write-keeps : (limit object offset : ℕ) (bytes : List ℕ) (time : Time) (files : List File) (reserved : ℕ) (s : Store)
+    → InRange (write object offset bytes time) → StoreBytes s → result s [] (writeOutcome limit object offset bytes time s) .number ≡ 0 → Inv files reserved s
+    → Inv (accepted (write object offset bytes time) files) reserved (result s [] (writeOutcome limit object offset bytes time s) .store)
+unfolding accepted
+write-keeps limit object offset bytes time files reserved s i b e h = go (r .done)
   where
     o : Outcome
-    o = outcome (write object offset bytes time) s
+    o = writeOutcome limit object offset bytes time s
 
-    r : FileCall s object (λ c o. ((length bytes ≡ 0) × (o ≡ accept 0 s [])) ⊎ Written mostRuns offset bytes time s c o) o
-    r = write-accepted object offset bytes time s e
+    r : FileCall s object (λ c o. ((length bytes ≡ 0) × (o ≡ accept 0 s [])) ⊎ Written limit offset bytes time s c o) o
+    r = write-accepted limit object offset bytes time s e
 
     news : List File
     news = change object (overwrite offset (take mostTransfer bytes)) files
 
-    go : ((length bytes ≡ 0) × (o ≡ accept 0 s [])) ⊎ Written mostRuns offset bytes time s (r .card) o → Inv (if eqb (length bytes) 0 then files else news) reserved (result s [] o .store)
+    go : ((length bytes ≡ 0) × (o ≡ accept 0 s [])) ⊎ Written limit offset bytes time s (r .card) o → Inv (if eqb (length bytes) 0 then files else news) reserved (result s [] o .store)
     go (inl z) = rw (if-true (eqb (length bytes) 0) files news (eq-eqb (length bytes) 0 (z .0)), z .1) (unfold result in h)
-    go (inr w) = rw (if-false (eqb (length bytes) 0) files news (ne-eqb (length bytes) 0 (w .some))) (write-done files reserved s h object (r .card) (r .known) offset bytes time o (i .2) w)
+    go (inr w) = rw (if-false (eqb (length bytes) 0) files news (ne-eqb (length bytes) 0 (w .some))) (write-done files reserved s b h object (r .card) (r .known) limit offset bytes time o (i .2) w)
 
 -- and so does a grow
 grow-keeps : (object size : ℕ) (time : Time) (files : List File) (reserved : ℕ) (s : Store)
-    → InRange (grow object size time) → call (grow object size time) s .number ≡ 0 → Inv files reserved s
+    → InRange (grow object size time) → StoreBytes s → call (grow object size time) s .number ≡ 0 → Inv files reserved s
     → Inv (accepted (grow object size time) files) reserved (call (grow object size time) s .store)
-unfolding call lentOut accepted
-grow-keeps object size time files reserved s i e h = go (r .done)
+unfolding call accepted
+grow-keeps object size time files reserved s i b e h = go (r .done)
   where
     o : Outcome
-    o = outcome (grow object size time) s
+    o = growOutcome object size time s
 
     r : FileCall s object (λ c o. ((size ≡ c .size) × (o ≡ accept 0 s [])) ⊎ Grown size time s c o) o
     r = grow-accepted object size time s e
 
     go : ((size ≡ r .card .size) × (o ≡ accept 0 s [])) ⊎ Grown size time s (r .card) o → Inv (change object (padded size) files) reserved (result s [] o .store)
-    go (inl z) = rw (z .1) (unfold result in inv-same files (change object (padded size) files) reserved s (λ n. grow-none files reserved s h object (r .card) (r .known) size (z .0) n (ℕ-discrete n object)) h)
-    go (inr w) = grow-done files reserved s h object (r .card) (r .known) size time o w
+    go (inl z) = rw (z .1) (unfold result in inv-same files (change object (padded size) files) reserved s (λ n. grow-none files reserved s b h object (r .card) (r .known) size (z .0) n (ℕ-discrete n object)) h)
+    go (inr w) = grow-done files reserved s b h object (r .card) (r .known) size time o w
 
 -- both, as `Invariant` asks for them
 pub changes : ChangesRight
 changes = record {
   writeKeeps = write-keeps;
   growKeeps = grow-keeps;
-  writeNever = λ object offset bytes time files reserved s i h. never-write s (h .passes) object offset bytes time
-      (λ card e n l t. never-plan h (write-change files reserved s h object card e offset bytes n) mostRuns);
-  growNever = λ object size time files reserved s i h. never-grow s (h .passes) object size time
-      (λ card e m l t. never-plan h (grow-change files reserved s h object card e size m) mostRuns);
+  writeNever = λ limit object offset bytes time files reserved s i b h. never-write s (h .passes) limit object offset bytes time
+      (λ card e n l t. unfold planOf in never-plan b h (write-change files reserved s b h object card e offset bytes n) limit);
+  growNever = λ object size time files reserved s i b h. never-grow s (h .passes) object size time
+      (λ card e m l t. unfold planOf in never-plan b h (grow-change files reserved s b h object card e size m) mostRuns);
 }

@@ -24,22 +24,21 @@ use Rattle.rules.specs.Refusal.{Refusal, Outcome, numberOf, firstOf, result}
 use Rattle.rules.specs.Refusal.Refusal.{no-card}
 use Rattle.rules.specs.Refusal.Outcome.{refuse, accept}
 use Rattle.rules.specs.Units.{Change, clipped, writeChange, growChange, unitsOf, writeUnits, growUnits}
-use Rattle.rules.specs.Rewrite.{Rewritten, Progress, Plan, rewriteUnits}
+use Rattle.rules.specs.Rewrite.{Rewritten, Progress, Plan}
 use Rattle.rules.specs.Rewrite.Plan.{refused, planned}
 use Rattle.rules.specs.Finish.{finished}
 use Rattle.rules.specs.Arguments.{pastLimit, belowSize, withCard}
-use Rattle.rules.specs.Write.{groupsFull, extentsFull, fitCases, carriedOut, changed, writeFile, writeOutcome, growFile, growOutcome}
+use Rattle.rules.specs.Write.{groupsFull, extentsFull, fitCases, planOf, carriedOut, writeFile, writeOutcome, growFile, growOutcome}
 use Rattle.rules.specs.Read.{Checked, readLength, checkUnits, handOut, readUnits, readFile, readOutcome}
 use Rattle.rules.specs.Read.Checked.{failed, bytes}
-use Rattle.rules.specs.Call.{call, lentOut, outcome}
+use Rattle.rules.specs.Call.{call}
 use Rattle.rules.specs.Call.Look.{read}
-use Rattle.rules.specs.Call.Call.{write, grow, look}
+use Rattle.rules.specs.Call.Call.{grow, look}
 use Rattle.rules.specs.Demand.{neverNumbers}
 use Rattle.rules.proofs.ListLaws.{if-cases, maybe-cases, each-none, each-more}
 use Rattle.rules.proofs.PassLaws.{Passes}
-use Rattle.rules.proofs.OutcomeLaws.{firstOf-cases, never-zero, accepted-cases, through}
+use Rattle.rules.proofs.OutcomeLaws.{firstOf-cases, never-zero, accepted-cases, through, store-passes}
 use Rattle.rules.proofs.EnterLaws.{TimeRight, time-right}
-use Rattle.rules.proofs.SettleLaws.{store-passes}
 use Rattle.history.proofs.HistoryLaws.{Never, goes-on}
 
 -- ---- accepted calls
@@ -113,15 +112,11 @@ carried answer c time s (planned rs p) e =
       done = t .goesOn;
     }
 
--- the plan of a change, from what its first unit finds
-abbrev pub planOf : ℕ → (Change → List ℕ) → Change → Card → Store → Plan
-planOf limit units c card s = rewriteUnits limit (decode s) c (units c) (record { taken = []; hint = decode s .hint; allocated = card .allocated })
-
 -- a write that is not empty was carried out
 pub record Written (limit offset : ℕ) (xs : List ℕ) (time : Time) (s : Store) (c : Card) (o : Outcome) : Type 0 where
   pub some : length xs ≡ 0 → ⊥
   pub end : offset + length (clipped xs) ≤ mostSize
-  pub time : TimeRight time
+  pub timely : TimeRight time
   pub carried : Carried (length (clipped xs)) (writeChange (c .object) (c .size) offset xs) time s
       (planOf limit writeUnits (writeChange (c .object) (c .size) offset xs) c s) o
 
@@ -130,7 +125,7 @@ pub write-file : (limit offset : ℕ) (xs : List ℕ) (time : Time) (s : Store) 
     → result s [] (writeFile limit offset xs time s c) .number ≡ 0
     → ((length xs ≡ 0) × (writeFile limit offset xs time s c ≡ accept 0 s []))
     ⊎ Written limit offset xs time s c (writeFile limit offset xs time s c)
-unfolding writeFile changed pastLimit
+unfolding writeFile pastLimit
 write-file limit offset xs time s c =
     let w : Change = writeChange (c .object) (c .size) offset xs in
     let k : Plan = planOf limit writeUnits w c s in
@@ -141,7 +136,7 @@ write-file limit offset xs time s c =
     (λ n e. inr (record {
       some = eqb-false (length xs) 0 q;
       end = ltb-false mostSize (offset + length (clipped xs)) (n .0);
-      time = time-right time (n .1 .0);
+      timely = time-right time (n .1 .0);
       carried = carried (length (clipped xs)) w time s k e;
     })))
 
@@ -149,13 +144,13 @@ write-file limit offset xs time s c =
 pub record Grown (size : ℕ) (time : Time) (s : Store) (c : Card) (o : Outcome) : Type 0 where
   pub more : c .size < size
   pub end : size ≤ mostSize
-  pub time : TimeRight time
+  pub timely : TimeRight time
   pub carried : Carried 0 (growChange (c .object) (c .size) size) time s (planOf mostRuns growUnits (growChange (c .object) (c .size) size) c s) o
 
 -- an accepted grow of a file
 pub grow-file : (size : ℕ) (time : Time) (s : Store) (c : Card) → result s [] (growFile size time s c) .number ≡ 0
     → ((size ≡ c .size) × (growFile size time s c ≡ accept 0 s [])) ⊎ Grown size time s c (growFile size time s c)
-unfolding growFile changed pastLimit belowSize
+unfolding growFile pastLimit belowSize
 grow-file size time s c =
     let w : Change = growChange (c .object) (c .size) size in
     let k : Plan = planOf mostRuns growUnits w c s in
@@ -170,27 +165,26 @@ grow-file size time s c =
     inr (record {
       more = omega arith;
       end = ltb-false mostSize size (m .0);
-      time = time-right time (n .0);
+      timely = time-right time (n .0);
       carried = carried 0 w time s k e;
     }))))
 
 -- an accepted read
 pub read-accepted : (object offset : ℕ) (out : List ℕ) (s : Store) → call (look (read object offset out)) s .number ≡ 0
-    → FileCall s object (λ c o. ((readLength (c .size) offset (length out) ≡ 0) × (o ≡ accept 0 s out)) ⊎ ReadBytes offset out s c o) (outcome (look (read object offset out)) s)
-unfolding call outcome lentOut readOutcome
+    → FileCall s object (λ c o. ((readLength (c .size) offset (length out) ≡ 0) × (o ≡ accept 0 s out)) ⊎ ReadBytes offset out s c o) (readOutcome object offset out s)
+unfolding call readOutcome
 read-accepted object offset out s = file-call s out object (readFile offset s out) _ (read-file offset out s)
 
--- an accepted write
-pub write-accepted : (object offset : ℕ) (xs : List ℕ) (time : Time) (s : Store) → call (write object offset xs time) s .number ≡ 0
-    → FileCall s object (λ c o. ((length xs ≡ 0) × (o ≡ accept 0 s [])) ⊎ Written mostRuns offset xs time s c o) (outcome (write object offset xs time) s)
-unfolding call outcome lentOut writeOutcome
-write-accepted object offset xs time s =
-    file-call s [] object (writeFile mostRuns offset xs time s) _ (write-file mostRuns offset xs time s)
+-- an accepted write, with any limit of runs
+pub write-accepted : (limit object offset : ℕ) (xs : List ℕ) (time : Time) (s : Store) → result s [] (writeOutcome limit object offset xs time s) .number ≡ 0
+    → FileCall s object (λ c o. ((length xs ≡ 0) × (o ≡ accept 0 s [])) ⊎ Written limit offset xs time s c o) (writeOutcome limit object offset xs time s)
+unfolding writeOutcome
+write-accepted limit object offset xs time s = file-call s [] object (writeFile limit offset xs time s) _ (write-file limit offset xs time s)
 
 -- an accepted grow
 pub grow-accepted : (object size : ℕ) (time : Time) (s : Store) → call (grow object size time) s .number ≡ 0
-    → FileCall s object (λ c o. ((size ≡ c .size) × (o ≡ accept 0 s [])) ⊎ Grown size time s c o) (outcome (grow object size time) s)
-unfolding call outcome lentOut growOutcome
+    → FileCall s object (λ c o. ((size ≡ c .size) × (o ≡ accept 0 s [])) ⊎ Grown size time s c o) (growOutcome object size time s)
+unfolding call growOutcome
 grow-accepted object size time s = file-call s [] object (growFile size time s) _ (grow-file size time s)
 
 -- ---- refusals that never come
@@ -221,20 +215,20 @@ module _ (s : Store) (p : Passes s) where
       → ((c : Card) → cardOf (decode s) object ≡ some c → (readLength (c .size) offset (length out) ≡ 0 → ⊥)
       → (r : Refusal) → checkUnits (decode s) (c .object) (c .size) (unitsOf offset (offset + readLength (c .size) offset (length out))) ≡ failed r → ⊥)
       → member (call (look (read object offset out)) s .number) neverNumbers ≡ false
-  unfolding call outcome lentOut readOutcome readFile readUnits result member any
+  unfolding call readOutcome readFile readUnits result member any
   never-read object offset out h =
       never-file s out object (readFile offset s out) p (λ c q.
       if-cases (Never s out) (eqb (readLength (c .size) offset (length out)) 0) (accept 0 s out) _
       (λ z. refl) (λ z. never-hand _ _ s out _ (h c q (eqb-false (readLength (c .size) offset (length out)) 0 z))))
 
-  -- write: no unit of its plan is refused with them
-  pub never-write : (object offset : ℕ) (xs : List ℕ) (time : Time)
+  -- write, with any limit of runs: no unit of its plan is refused with them
+  pub never-write : (limit object offset : ℕ) (xs : List ℕ) (time : Time)
       → ((c : Card) → cardOf (decode s) object ≡ some c → (length xs ≡ 0 → ⊥) → offset + length (clipped xs) ≤ mostSize → TimeRight time
-      → (r : Refusal) → planOf mostRuns writeUnits (writeChange (c .object) (c .size) offset xs) c s ≡ refused r → member (numberOf r) neverNumbers ≡ false)
-      → member (call (write object offset xs time) s .number) neverNumbers ≡ false
-  unfolding call outcome lentOut writeOutcome writeFile changed pastLimit result numberOf member any
-  never-write object offset xs time h =
-      never-file s [] object (writeFile mostRuns offset xs time s) p (λ c q.
+      → (r : Refusal) → planOf limit writeUnits (writeChange (c .object) (c .size) offset xs) c s ≡ refused r → member (numberOf r) neverNumbers ≡ false)
+      → Never s [] (writeOutcome limit object offset xs time s)
+  unfolding writeOutcome writeFile pastLimit result numberOf member any
+  never-write limit object offset xs time h =
+      never-file s [] object (writeFile limit offset xs time s) p (λ c q.
       if-cases (Never s []) (eqb (length xs) 0) (accept 0 s []) _ (λ z. refl)
       (λ z. firstOf-cases (Never s []) _ (each-more (λ e. refl) (each-more (λ e. refl) each-none))
       (λ n. never-carried (length (clipped xs)) (writeChange (c .object) (c .size) offset xs) time s _
@@ -245,7 +239,7 @@ module _ (s : Store) (p : Passes s) where
       → ((c : Card) → cardOf (decode s) object ≡ some c → c .size < size → size ≤ mostSize → TimeRight time
       → (r : Refusal) → planOf mostRuns growUnits (growChange (c .object) (c .size) size) c s ≡ refused r → member (numberOf r) neverNumbers ≡ false)
       → member (call (grow object size time) s .number) neverNumbers ≡ false
-  unfolding call outcome lentOut growOutcome growFile changed pastLimit belowSize result numberOf member any
+  unfolding call growOutcome growFile pastLimit belowSize result numberOf member any
   never-grow object size time h =
       never-file s [] object (growFile size time s) p (λ c q.
       firstOf-cases (Never s []) _ (each-more (λ e. refl) (each-more (λ e. refl) each-none))

@@ -18,10 +18,10 @@ use Rattle.rules.specs.Store.{Volume}
 use Rattle.rules.specs.Inspect.{checksumOf}
 use Rattle.rules.specs.Rewrite.{Rewritten}
 use Rattle.rules.specs.Finish.{isGroup, withGroup, setSlot, finishedGroups}
-use Rattle.rules.proofs.ListLaws.{clash, test-cases, if-true, if-false, if-cases, and-left, and-right, and-intro, or-left, or-right, find-none, find-given, find-passes, find-mem, all-of, none-at, ascending-tail, ascending-insert, Each, each-none, each-more, each-of, each-at, each-insert, each-weaken, each-map, each-all, ascending-all, pairBefore-total}
+use Rattle.rules.proofs.ListLaws.{clash, test-cases, if-true, if-false, if-cases, and-left, and-right, and-intro, or-left, or-right, find-none, find-given, find-passes, find-mem, all-of, none-at, ascending-tail, ascending-insert, Each, each-none, each-more, each-of, each-at, each-insert, each-weaken, each-map, each-all, ascending-all, pairBefore-total, getD-same}
 use Rattle.rules.proofs.EnterLaws.{filter-insert-yes, filter-insert-no}
 use Rattle.rules.proofs.GroupLaws.{GroupFits, slotValue}
-use Rattle.history.proofs.MoreLists.{ascending-through, each-mem, find-through, getD-same}
+use Rattle.history.proofs.MoreLists.{ascending-through, each-mem, find-through}
 
 -- the slot of a file's unit in a list of groups
 unfoldable pub slotIn : List Group → ℕ → ℕ → Option ℕ

@@ -16,10 +16,9 @@ use Rattle.rules.specs.Lists.{if_then_else_, range, all, any, filter, count, in
 use Rattle.rules.specs.Sizes.{blockBytes}
 use Rattle.rules.specs.Card.{Card, cardBefore}
 use Rattle.rules.specs.Extent.{Extent, extentEnd}
-use Rattle.rules.specs.Store.{Volume, cardOf}
+use Rattle.rules.specs.Store.{Volume}
 use Rattle.rules.specs.Integrity.{onDevice, inFile, inFiles, retiredRight}
 use Rattle.rules.specs.Inspect.{checksumOf, backedUnder, unitMapping, validMapping, backedBytes, validBytes, fullyBacked, zeroPastEnd, checksumRight, inspectSlot, inspectUnit}
-use Rattle.rules.specs.Read.{checkUnits}
 use Rattle.rules.specs.Enter.{entered}
 use Rattle.rules.specs.Settle.{settled}
 use Rattle.rules.specs.Demand.{Place, placesOf, places, holders, filePlaces}
@@ -104,12 +103,7 @@ pub holders-entered : (reserved : ℕ) (c : Card) (v : Volume) (b : ℕ) → hol
 unfolding holders entered places
 holders-entered reserved c v b = refl
 
--- settle leaves every file its places
-pub filePlaces-settled : (v : Volume) (object : ℕ) → filePlaces (settled v) object ≡ filePlaces v object
-unfolding filePlaces settled places
-filePlaces-settled v object = refl
-
--- and so does enter
+-- enter leaves every file its places
 pub filePlaces-entered : (c : Card) (v : Volume) (object : ℕ) → filePlaces (entered c v) object ≡ filePlaces v object
 unfolding filePlaces entered places
 filePlaces-entered c v object = refl
@@ -209,23 +203,7 @@ pub inspect-same : (v w : Volume) → SameFiles v w → (object size unit : ℕ)
 unfolding inspectUnit inspectSlot checksumOf backedUnder fullyBacked zeroPastEnd checksumRight validBytes backedBytes validMapping unitMapping
 inspect-same v w e object size unit = rw (e .uuid, e .extents, e .groups, e .image) refl
 
--- and so are many
-pub check-same : (v w : Volume) → SameFiles v w → (object size : ℕ) (units : List ℕ) → checkUnits v object size units ≡ checkUnits w object size units
-unfolding checkUnits
-check-same v w e object size [] = refl
-check-same v w e object size (u ∷ us) = rw (inspect-same v w e object size u, check-same v w e object size us) refl
-
 -- enter changes nothing of that
 pub files-entered : (c : Card) (v : Volume) → SameFiles (entered c v) v
 unfolding entered
 files-entered c v = record { uuid = refl; extents = refl; groups = refl; image = refl }
-
--- nor does settle
-pub files-settled : (v : Volume) → SameFiles (settled v) v
-unfolding settled
-files-settled v = record { uuid = refl; extents = refl; groups = refl; image = refl }
-
--- which keeps every card
-pub card-settled : (v : Volume) (object : ℕ) → cardOf (settled v) object ≡ cardOf v object
-unfolding settled cardOf
-card-settled v object = refl

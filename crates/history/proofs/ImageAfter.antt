@@ -11,17 +11,17 @@ use lib.ListN.{length, getD}
 use borrow.Author.Tests.{eqb-false}
 use Rattle.rules.specs.Lists.{member}
 use Rattle.rules.specs.Sizes.{blockBytes}
-use Rattle.rules.specs.Bytes.{Bytes, part, padded}
+use Rattle.rules.specs.Bytes.{part, padded}
 use Rattle.rules.specs.Store.{blockAt}
 use Rattle.rules.specs.Kept.{wanted, assigned}
 use Rattle.rules.specs.Rewrite.{Rewritten}
 use Rattle.rules.specs.Finish.{newBlocks, writeBlock, writeNew, finishedImage}
 use Rattle.rules.proofs.ListLaws.{order-cases, or-none-left, or-none-right, or-right, member-append, Each, each-none, each-more}
-use Rattle.rules.proofs.ByteLaws.{length-padded, length-patch, part-patch, part-patch-before, part-patch-behind, bytes-patch, bytes-padded, bytes-part}
+use Rattle.rules.proofs.ByteLaws.{length-padded, length-patch, part-patch, part-patch-before, part-patch-behind}
 use Rattle.rules.proofs.CountLaws.{member-cons, member-first, Once, once-head, once-tail}
 use Rattle.history.proofs.MoreBytes.{length-part-min}
 use Rattle.history.proofs.MoreLists.{once-apart, once-left, once-right}
-use Rattle.history.proofs.KeptLaws.{wanted-some, wanted-none}
+use Rattle.rules.proofs.KeptLaws.{wanted-some, wanted-none}
 
 -- ---- one block
 
@@ -67,16 +67,6 @@ module _ (n : ℕ) (bytes : List ℕ) where
   length-writeNew i (none ∷ kept) (each-more {x = b} l h) image f =
       let e : length (writeBlock image b (piece i)) ≡ length image = length-writeBlock image b (piece i) (short i) (omega arith) in
       length-writeNew (suc i) kept h (writeBlock image b (piece i)) (rw e f) ∙ e
-
-  -- it is of bytes
-  bytes-writeNew : (i : ℕ) (kept : List (Option ℕ)) (new : List ℕ) (image : List ℕ) → Bytes bytes → Bytes image → Bytes (writeNew bytes i kept (assigned kept new) image)
-  unfolding writeNew assigned writeBlock
-  bytes-writeNew i [] new image b m = m
-  bytes-writeNew i (some p ∷ kept) new image b m = bytes-writeNew (suc i) kept new image b m
-  bytes-writeNew i (none ∷ kept) [] image b m = m
-  bytes-writeNew i (none ∷ kept) (c ∷ new) image b m =
-      bytes-writeNew (suc i) kept new (writeBlock image c (piece i)) b
-      (bytes-patch image (c * blockBytes) (padded blockBytes (piece i)) m (bytes-padded blockBytes (piece i) (bytes-part bytes (i * blockBytes) blockBytes b)))
 
   -- a block that is not new is as before
   other-writeNew : (i : ℕ) (kept : List (Option ℕ)) {new : List ℕ} → Each (λ b. b < n) new → (image : List ℕ) → n * blockBytes ≤ length image
@@ -156,13 +146,6 @@ module _ (n : ℕ) where
   length-finishedImage (each-more {x = r} a h) image f =
       let e : length (writeNew (r .bytes) 0 (r .kept) (r .blocks) image) ≡ length image = length-unit r a image f in
       length-finishedImage h _ (rw e f) ∙ e
-
-  -- it is of bytes
-  pub bytes-finishedImage : {rs : List Rewritten} → Each (LaidOut n) rs → Each (λ r. Bytes (r .bytes)) rs → (image : List ℕ) → Bytes image → Bytes (finishedImage rs image)
-  unfolding finishedImage
-  bytes-finishedImage each-none each-none image m = m
-  bytes-finishedImage (each-more {x = r} a h) (each-more b g) image m =
-      bytes-finishedImage h g _ (rw (a .blocks) (bytes-writeNew n (r .bytes) 0 (r .kept) (r .new) image b m))
 
   -- a block that is new for no unit is as before
   pub other-finishedImage : {rs : List Rewritten} → Each (LaidOut n) rs → (image : List ℕ) → n * blockBytes ≤ length image → (c : ℕ) → member c (newBlocks rs) ≡ false

@@ -1,8 +1,8 @@
 -- What every call keeps, from which demand 3's claim follows: the plain arrays and the files say the same. Shown here for fresh, enter, settle, fill
 -- and read; of write and grow it is left as a premise that they keep it and are not refused with "2, 9 to 12 and 14".
 -- Assumes nothing.
-use mathlib.Core.Path.{_≡_, refl, sym, ap, _∙_}
-use mathlib.Core.List.{List, [], _∷_, List·Memᴰ, List·Memᴰ·not-nil}
+use mathlib.Core.Path.{_≡_, refl, sym, ap, subst, _∙_}
+use mathlib.Core.List.{List, [], _∷_, flatMap, List·Memᴰ, List·Memᴰ·not-nil}
 use mathlib.Core.Bool.{false}
 use mathlib.Core.Option.{Option, none, some, Option·some-injective, Option·none-ne-some}
 use Prim.Native.Nat.{ℕ, _*_, _≤_, _<_}
@@ -11,27 +11,30 @@ use native.Mathlib.Omega.{arith}
 use lib.Dec.{eqb}
 use lib.ListN.{length}
 use borrow.Author.Tests.{eq-eqb, ne-eqb}
+use Rattle.rules.specs.Write.{writeOutcome}
+use Rattle.rules.specs.Refusal.{result}
+use Rattle.rules.specs.Book.{Books}
 use Rattle.rules.specs.Time.{Time}
-use Rattle.rules.specs.Lists.{maybe, given, any, find, filter, member}
-use Rattle.rules.specs.Sizes.{unitBytes}
+use Rattle.rules.specs.Lists.{maybe, given, any, find, filter, count, member}
+use Rattle.rules.specs.Sizes.{unitBytes, mostRuns}
 use Rattle.rules.specs.Card.{Card}
 use Rattle.rules.specs.Store.{Store, StoreBytes, Volume, decode, cardOf}
 use Rattle.rules.specs.Inspect.{checksumOf}
 use Rattle.rules.specs.Fresh.{freshVolume}
 use Rattle.rules.specs.Enter.{newCard, entered}
 use Rattle.rules.specs.Settle.{settled}
-use Rattle.rules.specs.Call.{Call, InRange, call}
+use Rattle.rules.specs.Call.{Look, Call, InRange, call}
 use Rattle.rules.specs.Call.Look.{read, fill}
 use Rattle.rules.specs.Call.Call.{fresh, enter, write, grow, settle, look}
 use Rattle.rules.specs.Plain.{File, accepted, fileBytes}
-use Rattle.rules.specs.Demand.{givenReserved, holders, filePlaces, neverNumbers, PlainAnswer, Sound, Demand3}
+use Rattle.rules.specs.Demand.{givenReserved, placesOf, places, holders, filePlaces, neverNumbers, PlainAnswer, Sound, Demand3}
 use Rattle.rules.proofs.ListLaws.{given-some, maybe-some, find-yes, find-no, find-none}
 use Rattle.rules.proofs.PassLaws.{Passes, Lawful, Says, lawful-decode, room-decode}
 use Rattle.rules.proofs.FreshLaws.{fresh-says}
 use Rattle.rules.proofs.EnterLaws.{NoCard, card-entered, card-other, enter-accepted, enter-says}
-use Rattle.rules.proofs.SettleLaws.{settle-says, fill-stays, read-stays}
-use Rattle.history.proofs.HistoryLaws.{demand3-from, never-fresh, never-enter, settle-number, fill-number, fresh-holders}
-use Rattle.history.proofs.HolderLaws.{SameFiles, inspect-same, files-entered, files-settled, card-settled, holders-settled, holders-entered, filePlaces-settled, counts-entered}
+use Rattle.rules.proofs.SettleLaws.{settle-says, look-stays}
+use Rattle.history.proofs.HistoryLaws.{Never, demand3-from, never-fresh, never-enter, settle-number, fill-number, fresh-holders}
+use Rattle.history.proofs.HolderLaws.{SameFiles, inspect-same, files-entered, holders-settled, holders-entered, counts-entered}
 use Rattle.history.proofs.FileCallLaws.{read-accepted}
 use Rattle.history.proofs.ReadLaws.{ObjectIs, read-plain, read-never}
 
@@ -39,16 +42,21 @@ use Rattle.history.proofs.ReadLaws.{ObjectIs, read-plain, read-never}
 abbrev pub Past : Volume → ℕ → ℕ → Type 0
 Past v object unit = (c : Card) → cardOf v object ≡ some c → c .size ≤ unit * unitBytes
 
--- the plain arrays and the volume say the same, and every block is in one place
-pub record Agrees (files : List File) (reserved : ℕ) (v : Volume) : Type 0 where
+-- what the plain arrays say of the files is what the volume does. It is said of the volume's uuid, books and image alone: see `files-same`
+pub record FilesAgree (files : List File) (v : Volume) : Type 0 where
   -- the objects are the same
   pub objects : (object : ℕ) → given (fileBytes files object) ≡ given (cardOf v object)
   -- and their bytes
   pub bytes : (object : ℕ) (xs : List ℕ) → fileBytes files object ≡ some xs → ObjectIs v object xs
   -- no unit past the end of a file has a slot
   pub slots : (object unit : ℕ) → Past v object unit → checksumOf v object unit ≡ none
-  pub onePlace : (b : ℕ) → b < v .blocks → holders reserved v b ≡ 1
+  -- each card counts the places of its file
   pub counts : (c : Card) → List·Memᴰ c (v .books .cards) → c .allocated ≡ filePlaces v (c .object)
+
+-- the head's reserved is the number given to the last accepted fresh, and every block is in one place
+pub record BlocksAgree (reserved : ℕ) (v : Volume) : Type 0 where
+  pub given : v .reserved ≡ reserved
+  pub onePlace : (b : ℕ) → b < v .blocks → holders reserved v b ≡ 1
 
 -- ---- one object
 
@@ -74,35 +82,56 @@ slot-same : (w v : Volume) → SameFiles w v → (object unit : ℕ) → checksu
 unfolding checksumOf
 slot-same w v e object unit = rw (e .groups) refl
 
+-- ---- the same uuid, books and image
+
+-- what is said of the files is said of these
+pub files-same : (files : List File) (w v : Volume) → w .uuid ≡ v .uuid → w .books ≡ v .books → w .image ≡ v .image → FilesAgree files v → FilesAgree files w
+files-same files w v u b m a = record {
+  objects = λ object. a .objects object ∙ ap given (sym (card object));
+  bytes = λ object xs e. object-same w v same object (card object) xs (a .bytes object xs e);
+  slots = λ object unit p. slot-same w v same object unit ∙ a .slots object unit (λ c q. p c (card object ∙ q));
+  counts = λ c i. a .counts c (subst (λ (k : Books). List·Memᴰ c (k .cards)) b i) ∙ sym (unfold filePlaces places in ap (λ (k : Books). count (λ p. eqb (p .object) (c .object)) (flatMap placesOf (k .extents))) b);
+}
+  where
+    same : SameFiles w v
+    same = record { uuid = u; extents = ap (λ (k : Books). k .extents) b; groups = ap (λ (k : Books). k .groups) b; image = m }
+
+    card : (object : ℕ) → cardOf w object ≡ cardOf v object
+    card object = unfold cardOf in ap (λ (k : Books). find (λ c. eqb (c .object) object) (k .cards)) b
+
 -- ---- fresh
 
 -- a fresh volume says what no plain array does
-fresh-agrees : (uuid : List ℕ) (reserved : ℕ) (s : Store) → Agrees [] reserved (freshVolume uuid reserved s)
+fresh-files : (uuid : List ℕ) (reserved : ℕ) (s : Store) → FilesAgree [] (freshVolume uuid reserved s)
 unfolding fileBytes find filter maybe given cardOf checksumOf freshVolume
-fresh-agrees uuid reserved s = record {
+fresh-files uuid reserved s = record {
   objects = λ object. refl;
   bytes = λ object xs e. absurd (Option·none-ne-some xs e);
   slots = λ object unit p. refl;
-  onePlace = λ b l. fresh-holders uuid reserved s b;
   counts = λ c m. absurd (List·Memᴰ·not-nil m);
 }
 
+-- and each of its blocks is in one place
+fresh-blocks : (uuid : List ℕ) (reserved : ℕ) (s : Store) → BlocksAgree reserved (freshVolume uuid reserved s)
+fresh-blocks uuid reserved s = record { given = unfold freshVolume in refl; onePlace = λ b l. fresh-holders uuid reserved s b }
+
 -- ---- settle
 
--- what is said stays right
-settled-agrees : (files : List File) (reserved : ℕ) (v : Volume) → Lawful v → Agrees files reserved v → Agrees files reserved (settled v)
+-- the files stay
+settled-files : (files : List File) (v : Volume) → FilesAgree files v → FilesAgree files (settled v)
 unfolding settled
-settled-agrees files reserved v l a = record {
-  objects = λ object. a .objects object ∙ ap given (sym (card-settled v object));
-  bytes = λ object xs e. object-same (settled v) v (files-settled v) object (card-settled v object) xs (a .bytes object xs e);
-  slots = λ object unit p. slot-same (settled v) v (files-settled v) object unit ∙ a .slots object unit (λ c q. p c (card-settled v object ∙ q));
-  onePlace = λ b m. holders-settled reserved v l b ∙ a .onePlace b m;
-  counts = λ c m. a .counts c m ∙ sym (filePlaces-settled v (c .object));
+settled-files files v a = files-same files (settled v) v refl refl refl a
+
+-- and so do the blocks' holders
+settled-blocks : (reserved : ℕ) (v : Volume) → Lawful v → BlocksAgree reserved v → BlocksAgree reserved (settled v)
+settled-blocks reserved v l a = record {
+  given = unfold settled in a .given;
+  onePlace = λ b m. holders-settled reserved v l b ∙ a .onePlace b (unfold settled in m);
 }
 
 -- ---- enter
 
-module _ (files : List File) (reserved : ℕ) (c : Card) (v : Volume) (n : NoCard v (c .object)) where
+module _ (files : List File) (c : Card) (v : Volume) (n : NoCard v (c .object)) where
   -- the new object's plain array
   newFile : File
   newFile = record { object = c .object; bytes = [] }
@@ -127,9 +156,9 @@ module _ (files : List File) (reserved : ℕ) (c : Card) (v : Volume) (n : NoCar
   no-card-before k q = Option·none-ne-some k (sym (find-none (λ d. eqb (d .object) (c .object)) (v .books .cards) n) ∙ q)
 
   -- what is said stays right, with the new plain array
-  entered-agrees : c .size ≡ 0 → c .allocated ≡ 0 → Lawful v → Agrees files reserved v → Agrees (newFile ∷ files) reserved (entered c v)
+  entered-files : c .size ≡ 0 → c .allocated ≡ 0 → Lawful v → FilesAgree files v → FilesAgree (newFile ∷ files) (entered c v)
   unfolding newFile given
-  entered-agrees z y l a = record {
+  entered-files z y l a = record {
     objects = λ object. either-object (given (fileBytes (newFile ∷ files) object) ≡ given (cardOf (entered c v) object)) object
         (λ e. rw (← e, file-new newFile files, card-entered c v n) refl)
         (λ d. rw (file-other newFile files object d, card-other c v object d) (a .objects object));
@@ -139,40 +168,47 @@ module _ (files : List File) (reserved : ℕ) (c : Card) (v : Volume) (n : NoCar
     slots = λ object unit p. slot-same (entered c v) v (files-entered c v) object unit ∙ a .slots object unit
         (λ k q. either-object (k .size ≤ unit * unitBytes) object
         (λ e. absurd (no-card-before k (rw (← e) at q))) (λ d. p k (card-other c v object d ∙ q)));
-    onePlace = unfold entered in (λ b m. holders-entered reserved c v b ∙ a .onePlace b m);
     counts = counts-entered c v n y l (a .counts);
   }
 
+-- the blocks stay
+entered-blocks : (reserved : ℕ) (c : Card) (v : Volume) → BlocksAgree reserved v → BlocksAgree reserved (entered c v)
+entered-blocks reserved c v a = record {
+  given = unfold entered in a .given;
+  onePlace = λ b m. holders-entered reserved c v b ∙ a .onePlace b (unfold entered in m);
+}
+
 -- ---- the store
 
--- the store is one of bytes, passes refusals 1 and 2, and says what the plain arrays do
+-- the store passes refusals 1 and 2, and says of the files and of the blocks what the calls tell
 pub record Inv (files : List File) (reserved : ℕ) (s : Store) : Type 0 where
-  pub bytes : StoreBytes s
   pub passes : Passes s
-  pub agrees : Agrees files reserved (decode s)
+  pub filesAgree : FilesAgree files (decode s)
+  pub blocksAgree : BlocksAgree reserved (decode s)
 
 -- so does one that says a volume that agrees
-pub inv-says : (files : List File) (reserved : ℕ) (s : Store) (v : Volume) → Says s v → Agrees files reserved v → Inv files reserved s
-inv-says files reserved s v y a = record { bytes = y .bytes; passes = y .passes; agrees = rw (y .volume) a }
+pub inv-says : (files : List File) (reserved : ℕ) (s : Store) (v : Volume) → Says s v → FilesAgree files v → BlocksAgree reserved v → Inv files reserved s
+inv-says files reserved s v y a b = record { passes = y .passes; filesAgree = rw (y .volume) a; blocksAgree = rw (y .volume) b }
 
 -- fresh makes it
 pub inv-fresh : (s : Store) → StoreBytes s → (uuid : List ℕ) (reserved : ℕ) → InRange (fresh uuid reserved) → call (fresh uuid reserved) s .number ≡ 0
     → Inv [] reserved (call (fresh uuid reserved) s .store)
-inv-fresh s b uuid reserved i e = inv-says [] reserved _ (freshVolume uuid reserved s) (fresh-says s b uuid reserved i e) (fresh-agrees uuid reserved s)
+inv-fresh s b uuid reserved i e =
+    inv-says [] reserved _ (freshVolume uuid reserved s) (fresh-says s b uuid reserved i e) (fresh-files uuid reserved s) (fresh-blocks uuid reserved s)
 
 -- enter keeps it
-pub inv-enter : (object : ℕ) (time : Time) (files : List File) (reserved : ℕ) (s : Store) → InRange (enter object time)
+pub inv-enter : (object : ℕ) (time : Time) (files : List File) (reserved : ℕ) (s : Store) → InRange (enter object time) → StoreBytes s
     → call (enter object time) s .number ≡ 0 → Inv files reserved s → Inv (record { object = object; bytes = [] } ∷ files) reserved (call (enter object time) s .store)
 unfolding newCard newFile
-inv-enter object time files reserved s i e h =
+inv-enter object time files reserved s i b e h =
     let c : Card = newCard object time in
-    inv-says _ reserved _ (entered c (decode s)) (enter-says s (h .bytes) object time i e)
-    (entered-agrees files reserved c (decode s) (enter-accepted object time s e .new) refl refl (lawful-decode s (h .passes)) (h .agrees))
+    inv-says _ reserved _ (entered c (decode s)) (enter-says s b object time i e)
+    (entered-files files c (decode s) (enter-accepted object time s e .new) refl refl (lawful-decode s (h .passes)) (h .filesAgree)) (entered-blocks reserved c (decode s) (h .blocksAgree))
 
 -- settle keeps it
-pub inv-settle : (files : List File) (reserved : ℕ) (s : Store) → call settle s .number ≡ 0 → Inv files reserved s → Inv files reserved (call settle s .store)
-inv-settle files reserved s e h =
-    inv-says files reserved _ (settled (decode s)) (settle-says s (h .bytes) e) (settled-agrees files reserved (decode s) (lawful-decode s (h .passes)) (h .agrees))
+pub inv-settle : (files : List File) (reserved : ℕ) (s : Store) → StoreBytes s → call settle s .number ≡ 0 → Inv files reserved s → Inv files reserved (call settle s .store)
+inv-settle files reserved s b e h =
+    inv-says files reserved _ (settled (decode s)) (settle-says s b e) (settled-files files (decode s) (h .filesAgree)) (settled-blocks reserved (decode s) (lawful-decode s (h .passes)) (h .blocksAgree))
 
 -- ---- the claim
 
@@ -180,7 +216,7 @@ inv-settle files reserved s e h =
 pub known-object : (files : List File) (reserved : ℕ) (s : Store) → Inv files reserved s → (object : ℕ) (c : Card) → cardOf (decode s) object ≡ some c
     → (xs : List ℕ) × (fileBytes files object ≡ some xs)
 unfolding given
-known-object files reserved s h object c q = given-some (fileBytes files object) (h .agrees .objects object ∙ ap given q)
+known-object files reserved s h object c q = given-some (fileBytes files object) (h .filesAgree .objects object ∙ ap given q)
 
 -- no read is refused with "2, 9 to 12 and 14"
 never-inv-read : (files : List File) (reserved : ℕ) (s : Store) → Inv files reserved s → (object offset : ℕ) (out : List ℕ)
@@ -189,60 +225,64 @@ never-inv-read files reserved s h object offset out = go (fileBytes files object
   where
     go : (o : Option (List ℕ)) → fileBytes files object ≡ o → member (call (look (read object offset out)) s .number) neverNumbers ≡ false
     go none e = read-never s object [] (λ c q. absurd (let k = known-object files reserved s h object c q in Option·none-ne-some (k .0) (sym e ∙ k .1))) offset out (h .passes)
-    go (some xs) e = read-never s object xs (h .agrees .bytes object xs e) offset out (h .passes)
+    go (some xs) e = read-never s object xs (h .filesAgree .bytes object xs e) offset out (h .passes)
 
--- what is left to show of write and grow
+-- what is left to show of write, with any limit of runs, and of grow
 pub record ChangesRight : Type 0 where
-  pub writeKeeps : (object offset : ℕ) (bytes : List ℕ) (time : Time) (files : List File) (reserved : ℕ) (s : Store)
-      → InRange (write object offset bytes time) → call (write object offset bytes time) s .number ≡ 0 → Inv files reserved s
-      → Inv (accepted (write object offset bytes time) files) reserved (call (write object offset bytes time) s .store)
+  pub writeKeeps : (limit object offset : ℕ) (bytes : List ℕ) (time : Time) (files : List File) (reserved : ℕ) (s : Store)
+      → InRange (write object offset bytes time) → StoreBytes s → result s [] (writeOutcome limit object offset bytes time s) .number ≡ 0 → Inv files reserved s
+      → Inv (accepted (write object offset bytes time) files) reserved (result s [] (writeOutcome limit object offset bytes time s) .store)
   pub growKeeps : (object size : ℕ) (time : Time) (files : List File) (reserved : ℕ) (s : Store)
-      → InRange (grow object size time) → call (grow object size time) s .number ≡ 0 → Inv files reserved s
+      → InRange (grow object size time) → StoreBytes s → call (grow object size time) s .number ≡ 0 → Inv files reserved s
       → Inv (accepted (grow object size time) files) reserved (call (grow object size time) s .store)
-  pub writeNever : (object offset : ℕ) (bytes : List ℕ) (time : Time) (files : List File) (reserved : ℕ) (s : Store)
-      → InRange (write object offset bytes time) → Inv files reserved s → member (call (write object offset bytes time) s .number) neverNumbers ≡ false
+  pub writeNever : (limit object offset : ℕ) (bytes : List ℕ) (time : Time) (files : List File) (reserved : ℕ) (s : Store)
+      → InRange (write object offset bytes time) → StoreBytes s → Inv files reserved s → Never s [] (writeOutcome limit object offset bytes time s)
   pub growNever : (object size : ℕ) (time : Time) (files : List File) (reserved : ℕ) (s : Store)
-      → InRange (grow object size time) → Inv files reserved s → member (call (grow object size time) s .number) neverNumbers ≡ false
+      → InRange (grow object size time) → StoreBytes s → Inv files reserved s → member (call (grow object size time) s .number) neverNumbers ≡ false
+
+-- the calls that leave the store are not refused with "2, 9 to 12 and 14"
+never-look : (files : List File) (reserved : ℕ) (s : Store) → Inv files reserved s → (l : Look) → member (call (look l) s .number) neverNumbers ≡ false
+unfolding member any
+never-look files reserved s h (read object offset out) = never-inv-read files reserved s h object offset out
+never-look files reserved s h fill = ap (λ n. member n neverNumbers) (fill-number s (h .passes))
 
 module _ (w : ChangesRight) where
   -- every accepted call keeps it
-  keeps : (c : Call) (files : List File) (reserved : ℕ) (s : Store) → InRange c → call c s .number ≡ 0 → Inv files reserved s
+  keeps : (c : Call) (files : List File) (reserved : ℕ) (s : Store) → InRange c → StoreBytes s → call c s .number ≡ 0 → Inv files reserved s
       → Inv (accepted c files) (givenReserved c reserved) (call c s .store)
-  unfolding accepted givenReserved
-  keeps (fresh uuid n) files reserved s i e h = inv-fresh s (h .bytes) uuid n i e
-  keeps (enter object time) files reserved s i e h = inv-enter object time files reserved s i e h
-  keeps (write object offset bytes time) files reserved s i e h = w .writeKeeps object offset bytes time files reserved s i e h
-  keeps (grow object size time) files reserved s i e h = w .growKeeps object size time files reserved s i e h
-  keeps (read object offset out) files reserved s i e h = rw (read-stays object offset out s) h
-  keeps settle files reserved s i e h = inv-settle files reserved s e h
-  keeps fill files reserved s i e h = rw (fill-stays s) h
+  unfolding call accepted givenReserved
+  keeps (fresh uuid n) files reserved s i b e h = inv-fresh s b uuid n i e
+  keeps (enter object time) files reserved s i b e h = inv-enter object time files reserved s i b e h
+  keeps (write object offset bytes time) files reserved s i b e h = w .writeKeeps mostRuns object offset bytes time files reserved s i b e h
+  keeps (grow object size time) files reserved s i b e h = w .growKeeps object size time files reserved s i b e h
+  keeps settle files reserved s i b e h = inv-settle files reserved s b e h
+  keeps (look l) files reserved s i b e h = rw (look-stays l s) h
 
   -- and none is refused with "2, 9 to 12 and 14"
-  never-refused : (files : List File) (reserved : ℕ) (s : Store) → Inv files reserved s → (c : Call) → InRange c → member (call c s .number) neverNumbers ≡ false
-  unfolding member any
-  never-refused files reserved s h (fresh uuid n) i = never-fresh uuid n s
-  never-refused files reserved s h (enter object time) i = never-enter s (h .passes) object time
-  never-refused files reserved s h (write object offset bytes time) i = w .writeNever object offset bytes time files reserved s i h
-  never-refused files reserved s h (grow object size time) i = w .growNever object size time files reserved s i h
-  never-refused files reserved s h (read object offset out) i = never-inv-read files reserved s h object offset out
-  never-refused files reserved s h settle i = ap (λ n. member n neverNumbers) (settle-number s (h .passes))
-  never-refused files reserved s h fill i = ap (λ n. member n neverNumbers) (fill-number s (h .passes))
+  never-refused : (files : List File) (reserved : ℕ) (s : Store) → StoreBytes s → Inv files reserved s → (c : Call) → InRange c → member (call c s .number) neverNumbers ≡ false
+  unfolding call member any
+  never-refused files reserved s b h (fresh uuid n) i = never-fresh uuid n s
+  never-refused files reserved s b h (enter object time) i = never-enter s (h .passes) object time
+  never-refused files reserved s b h (write object offset bytes time) i = w .writeNever mostRuns object offset bytes time files reserved s i b h
+  never-refused files reserved s b h (grow object size time) i = w .growNever object size time files reserved s i b h
+  never-refused files reserved s b h settle i = ap (λ n. member n neverNumbers) (settle-number s (h .passes))
+  never-refused files reserved s b h (look l) i = never-look files reserved s h l
 
   -- the claim
-  sound : (files : List File) (reserved : ℕ) (s : Store) → Inv files reserved s → Sound files reserved s
-  sound files reserved s h = record {
+  sound : (files : List File) (reserved : ℕ) (s : Store) → StoreBytes s → Inv files reserved s → Sound files reserved s
+  sound files reserved s b h = record {
     reads = λ object offset out i e. reads object offset out e;
-    onePlace = λ b l. h .agrees .onePlace b (rw (room-decode s (h .passes) .blocks) l);
-    counts = h .agrees .counts;
-    never = never-refused files reserved s h;
+    onePlace = λ b l. h .blocksAgree .onePlace b (rw (room-decode s (h .passes) .blocks) l);
+    counts = h .filesAgree .counts;
+    never = never-refused files reserved s b h;
   }
     where
       reads : (object offset : ℕ) (out : List ℕ) → call (look (read object offset out)) s .number ≡ 0 → PlainAnswer files object offset out (call (look (read object offset out)) s)
       reads object offset out e =
           let r = read-accepted object offset out s e in
           let k = known-object files reserved s h object (r .card) (r .known) in
-          read-plain s object (k .0) (h .agrees .bytes object (k .0) (k .1)) offset out files (k .1) e
+          read-plain s object (k .0) (h .filesAgree .bytes object (k .0) (k .1)) offset out files (k .1) e
 
   -- demand 3, from what is left of write and grow
   pub demand3-from-changes : Demand3
-  demand3-from-changes = demand3-from Inv inv-fresh keeps sound
+  demand3-from-changes = demand3-from Inv keeps inv-fresh sound

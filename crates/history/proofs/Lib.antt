@@ -1,3 +1,4 @@
+pub mod Induction
 pub mod HistoryLaws
 pub mod HolderLaws
 pub mod FileCallLaws
@@ -15,7 +16,6 @@ pub mod BackedLaws
 pub mod ExtentsFromPlaces
 pub mod MoreLists
 pub mod MoreBytes
-pub mod KeptLaws
 pub mod ImageAfter
 pub mod GroupsAfter
 pub mod CardsAfter

@@ -9,8 +9,8 @@ use native.Mathlib.Omega.{arith}
 use lib.ListN.{length, take, drop, getD, replicate, length-append, length-take, length-drop, length-replicate, getD-replicate, take-append-drop, replicate-append-replicate, drop-of-length-le, List·getD-append, List·getD-eq-default}
 use lib.Seq.{take-all, getD-append-add, getD-drop, ext-getD}
 use Rattle.rules.specs.Bytes.{part, patch, padded}
+use Rattle.rules.proofs.ListLaws.{getD-same}
 use Rattle.rules.proofs.ByteLaws.{getD-part, part-part}
-use Rattle.history.proofs.MoreLists.{getD-same}
 
 -- ---- zeros behind a list
 

@@ -7,21 +7,15 @@ use mathlib.Core.Option.{none, some}
 use Prim.Native.Nat.{ℕ, zero, suc, _+_, _≤_, _<_}
 use native.Mathlib.Omega.{arith}
 use lib.Dec.{eqb, ltb}
-use lib.ListN.{length, getD, getElem?, replicate}
+use lib.ListN.{length, getD, getElem?}
 use borrow.Author.Tests.{eqb-true, eq-eqb, ne-eqb, ltb-true, ltb-false}
 use Rattle.rules.specs.Lists.{if_then_else_, maybe, any, filter, count, find, member, ascending, neighbours}
-use Rattle.rules.proofs.ListLaws.{test-cases, if-true, if-false, and-left, and-intro, or-cases, or-left, or-right, count-append, count-yes, count-no, find-yes, find-no, ascending-first, ascending-tail, Each, each-none, each-more, each-any, each-weaken}
-use Rattle.rules.proofs.CountLaws.{same-test, count-each, count-none, count-filter, member-count, Once, ascending-below}
+use Rattle.rules.proofs.ListLaws.{test-cases, and-left, and-intro, or-cases, or-left, or-right, count-append, count-yes, count-no, find-yes, find-no, ascending-first, ascending-tail, Each, each-none, each-more, each-any, each-weaken}
+use Rattle.rules.proofs.CountLaws.{count-nil, count-cons, same-test, count-each, count-none, count-filter, member-count, Once, ascending-below}
 use Rattle.rules.proofs.PassLaws.{all-each}
 use Rattle.history.proofs.HolderLaws.{count-every}
 
 -- ---- elements
-
--- one of many copies, or the default that is the same
-pub getD-same : {A : Type 0} (n : ℕ) (a : A) (i : ℕ) → getD (replicate n a) i a ≡ a
-getD-same zero a i = refl
-getD-same (suc n) a zero = refl
-getD-same (suc n) a (suc i) = getD-same n a i
 
 -- one of the elements that are there
 pub getElem-some : (bs : List ℕ) (i : ℕ) → i < length bs → getElem? bs i ≡ some (getD bs i 0)
@@ -75,21 +69,10 @@ ascending-through before φ e (x ∷ y ∷ xs) a =
 -- ---- counting
 
 module _ {A : Type 0} (f : A → Bool) where
-  -- nothing counts 0
-  pub count-nil : count f [] ≡ 0
-  unfolding count filter
-  count-nil = refl
-
-  -- the first element and the others, counted
-  pub count-cons : (x : A) (xs : List A) → count f (x ∷ xs) ≡ (if f x then 1 else 0) + count f xs
-  count-cons x xs =
-      test-cases (count f (x ∷ xs) ≡ (if f x then 1 else 0) + count f xs) (f x)
-      (λ e. rw (count-yes f x xs e, if-true {A = ℕ} (f x) 1 0 e) (omega arith)) (λ e. rw (count-no f x xs e, if-false {A = ℕ} (f x) 1 0 e) (omega arith))
-
   -- one that passes is counted
   pub mem-counted : {x : A} (xs : List A) → List·Memᴰ x xs → f x ≡ true → 0 < count f xs
   mem-counted (y ∷ ys) (List·Memᴰ·head e) t = omega (arith, count-yes f y ys (rw e at t))
-  mem-counted (y ∷ ys) (List·Memᴰ·tail m) t = omega (arith, mem-counted ys m t, count-cons y ys)
+  mem-counted (y ∷ ys) (List·Memᴰ·tail m) t = omega (arith, mem-counted ys m t, count-cons f y ys)
 
 -- what passes through a function, counted
 pub count-map : {A B : Type 0} (f : B → Bool) (h : A → B) (xs : List A) → count f (map h xs) ≡ count (λ x. f (h x)) xs

@@ -13,11 +13,11 @@ use Rattle.rules.specs.Sizes.{unitBlocks}
 use Rattle.rules.specs.Extent.{Extent, covers, blockOf, mapping}
 use Rattle.rules.specs.Demand.{Place, placesOf}
 use Rattle.rules.proofs.ListLaws.{clash, test-cases, if-true, if-false, and-left, and-right, and-intro, count-append, each-any, each-weaken}
-use Rattle.rules.proofs.CountLaws.{same-test, count-each, count-none, count-range-one, member-cons, member-nil, member-range-of, member-range-in, each-range, Once, once-range, once-head, once-tail}
+use Rattle.rules.proofs.CountLaws.{same-test, count-each, count-none, count-range-one, member-cons, member-nil, member-range-of, member-range-in, each-range, Once, once-range, once-head, once-tail, count-cons}
 use Rattle.history.proofs.ApartLaws.{Pairs, pairs-none, pairs-more, Ahead, earlier}
 use Rattle.history.proofs.MappingLaws.{Covers, covers-true, covers-of, beside-apart, mapping-yes, mapping-no, mapping-nil, mapping-none}
-use Rattle.history.proofs.KeptLaws.{there}
-use Rattle.history.proofs.MoreLists.{count-cons, count-either, count-map}
+use Rattle.rules.proofs.KeptLaws.{there}
+use Rattle.history.proofs.MoreLists.{count-either, count-map}
 
 -- ---- counting
 

@@ -21,20 +21,20 @@ use Rattle.rules.specs.Inspect.{Inspected, inspectUnit, unitMapping}
 use Rattle.rules.specs.Inspect.Inspected.{hole, checked}
 use Rattle.rules.specs.Kept.{blocksAfter, retainedBlocks, wanted, superseded}
 use Rattle.rules.specs.Allocation.{allocateData, tooFew}
-use Rattle.rules.specs.Rewrite.{Progress, Rewritten, Step, Plan, layOut, allocatedAfter, countDisagrees, counted, allocated, rewriteFrom, afterRead, rewriteUnit, after, before, andThen, rewriteUnits}
+use Rattle.rules.specs.Rewrite.{Progress, Rewritten, Step, Plan, layOut, allocatedAfter, countDisagrees, counted, allocateUnit, rewriteFrom, afterRead, rewriteUnit, after, prepend, andThen, rewriteUnits}
 use Rattle.rules.specs.Rewrite.Step.{stopped, untouched, rewritten}
 use Rattle.rules.specs.Rewrite.Plan.{refused, planned}
-use Rattle.rules.proofs.ListLaws.{clash, if-cases, and-left, length-range, Each, each-weaken}
+use Rattle.rules.proofs.ListLaws.{clash, if-cases, and-left, length-range, Each, each-weaken, getD-same}
 use Rattle.rules.proofs.ByteLaws.{length-part, getD-part}
 use Rattle.rules.proofs.CountLaws.{Once}
 use Rattle.rules.proofs.AllocationLaws.{each-allocateData, length-allocateData, ascending-allocateData}
 use Rattle.history.proofs.ReadLaws.{UnitIs, is-hole, is-checked, FileIs}
 use Rattle.history.proofs.ImageAfter.{LaidOut}
-use Rattle.history.proofs.KeptLaws.{there, Keeps, KeptFor, count-superseded, length-retained, retained-for, wanted-most}
+use Rattle.rules.proofs.KeptLaws.{there, Keeps, KeptFor, count-superseded, length-retained, retained-for, wanted-most}
 use Rattle.history.proofs.PlaceCounts.{total}
 use Rattle.history.proofs.UnitLaws.{getD-mapped, CheckedUnit, checked-means, checked-block, valid-blocks}
 use Rattle.history.proofs.ChangeLaws.{Becomes, Stays, stays-checked, stays-zeros, stays-unread, assembled-is, valid-new, valid-old, untouched-zeros, settled-part, settled-whole}
-use Rattle.history.proofs.MoreLists.{count-all, getD-same, once-ascending}
+use Rattle.history.proofs.MoreLists.{count-all, once-ascending}
 use Rattle.history.proofs.MoreBytes.{length-part-min, padded-whole}
 
 -- the bytes of a unit in a plain array
@@ -128,11 +128,11 @@ module _ (limit : ℕ) (v : Volume) (c : Change) (xs ys : List ℕ) (k : Known v
       most : p .allocated + unitBlocks ≤ mostAllocated
 
     -- a unit assembled from these old bytes, verified or not
-    replaced-is : Share → (verified : Bool) (old : List ℕ) → Stays c xs ys (k .becomes) u old
+    rewritten-from : Share → (verified : Bool) (old : List ℕ) → Stays c xs ys (k .becomes) u old
         → ((i q : ℕ) → KeptFor c u verified (unitOld v c u) i q → blockAt (v .image) q ≡ padded blockBytes (part (i * blockBytes) blockBytes (unitPart u ys)))
         → StepIs v c ys p u (rewriteFrom limit v c u p verified old)
-    unfolding rewriteFrom allocated counted
-    replaced-is e verified old s same =
+    unfolding rewriteFrom allocateUnit counted
+    rewritten-from e verified old s same =
         if-cases (StepIs v c ys p u) (tooFew (v .blocks) (v .used) (p .taken) (wanted kept)) (stopped no-space) _ (λ t. step-full)
         (λ t. if-cases (StepIs v c ys p u) (countDisagrees (p .allocated) r) (stopped count-disagrees) (rewritten r) (λ d. absurd (clash (right t) d)) (λ d. step-done (done t)))
       where
@@ -202,10 +202,10 @@ module _ (limit : ℕ) (v : Volume) (c : Change) (xs ys : List ℕ) (k : Known v
     unfolding afterRead
     read-is e (is-checked {ys = zs} q) h =
         let d : inspectUnit v (c .object) (c .oldSize) u ≡ checked (unitPart u xs) = h ∙ ap checked (sym q) in
-        rw (← q) (replaced-is e true (unitPart u xs) (stays-checked c xs ys (k .becomes) u) (keeps-checked (checked-means v (c .object) (c .oldSize) u (unitPart u xs) d)))
+        rw (← q) (rewritten-from e true (unitPart u xs) (stays-checked c xs ys (k .becomes) u) (keeps-checked (checked-means v (c .object) (c .oldSize) u (unitPart u xs) d)))
     read-is e (is-hole q) h =
         if-cases (StepIs v c ys p u) (touches c u) _ untouched
-        (λ t. replaced-is e false [] (stays-zeros c xs ys (k .becomes) u zeros) keeps-none)
+        (λ t. rewritten-from e false [] (stays-zeros c xs ys (k .becomes) u zeros) keeps-none)
         (λ t. step-hole (record { found = h; zeros = untouched-zeros c xs ys (k .becomes) u t zeros }))
       where
         zeros : (j : ℕ) → j < unitBytes → getD xs (u * unitBytes + j) 0 ≡ 0
@@ -218,7 +218,7 @@ module _ (limit : ℕ) (v : Volume) (c : Change) (xs ys : List ℕ) (k : Known v
         if-cases (StepIs v c ys p u) (readsOld c u) (afterRead limit v c u p (inspectUnit v (c .object) (c .oldSize) u)) _
         (λ t. let l : u * unitBytes < length xs = unfold readsOld in omega (arith, ltb-true 0 (validLength (c .oldSize) u) (and-left (ltb 0 (validLength (c .oldSize) u)) (not (coversOld c u)) t), valid-old c xs ys (k .becomes) u, length-part-min xs (u * unitBytes) unitBytes) in
         read-is e (subst (λ (n : ℕ). UnitIs (unitPart u xs) (inspectUnit v (c .object) n u)) (sym (k .becomes .old)) (k .file u l)) refl)
-        (λ t. replaced-is e false [] (stays-unread c xs ys (k .becomes) u t) keeps-none)
+        (λ t. rewritten-from e false [] (stays-unread c xs ys (k .becomes) u t) keeps-none)
 
   -- a unit's share, and enough for those after it
   share : (u : ℕ) (us : List ℕ) (p : Progress) → Enough v c (u ∷ us) p → Share u p
@@ -234,9 +234,9 @@ module _ (limit : ℕ) (v : Volume) (c : Change) (xs ys : List ℕ) (k : Known v
       behind h plan-full = plan-full
       behind h (plan-done d) = plan-done (plan-hole h d)
 
-      next : {r : Rewritten} {q : Plan} → UnitRight v c ys p u r → PlanIs v c ys us (after p r) q → PlanIs v c ys (u ∷ us) p (before r q)
-      next h plan-full = unfold before in plan-full
-      next h (plan-done d) = unfold before in plan-done (plan-unit h d)
+      next : {r : Rewritten} {q : Plan} → UnitRight v c ys p u r → PlanIs v c ys us (after p r) q → PlanIs v c ys (u ∷ us) p (prepend r q)
+      next h plan-full = unfold prepend in plan-full
+      next h (plan-done d) = unfold prepend in plan-done (plan-unit h d)
 
       go : {s : Step} → StepIs v c ys p u s → ((q : Progress) → Enough v c us q → PlanIs v c ys us q (rewriteUnits limit v c us q)) → PlanIs v c ys (u ∷ us) p (andThen p s (λ q. rewriteUnits limit v c us q))
       go step-full ih = unfold andThen in plan-full

@@ -19,16 +19,15 @@ use Rattle.rules.specs.Allocation.{hintAfter}
 use Rattle.rules.specs.Rewrite.{Progress, Rewritten, allocatedAfter, after}
 use Rattle.rules.specs.Finish.{newBlocks, supersededBlocks}
 use Rattle.rules.proofs.ListLaws.{clash, test-cases, and-intro, or-cases, or-left, or-right, or-none-left, member-append, count-append, ascending-tail, Each, each-none, each-more, each-weaken}
-use Rattle.rules.proofs.CountLaws.{member-cons, member-count, member-each, Once, ascending-below}
+use Rattle.rules.proofs.CountLaws.{member-cons, member-count, member-each, Once, ascending-below, count-nil}
 use Rattle.rules.proofs.AllocationLaws.{hintAfter-lt, hintAfter-none, groups-four}
 use Rattle.history.proofs.Rewritten.{Units}
 use Rattle.history.proofs.ImageAfter.{new-cons}
 use Rattle.history.proofs.GroupsAfter.{unitBefore}
-use Rattle.history.proofs.KeptLaws.{length-assigned}
+use Rattle.rules.proofs.KeptLaws.{length-assigned}
 use Rattle.history.proofs.PlaceCounts.{total}
 use Rattle.history.proofs.UnitLaws.{valid-blocks}
 use Rattle.history.proofs.PlanLaws.{UnitRight, StaysHole, Planned, plan-end, plan-hole, plan-unit, Enough, enough-hole, enough-unit, superseded-most}
-use Rattle.history.proofs.MoreLists.{count-nil}
 
 -- the superseded blocks of the first unit, and of the others
 pub superseded-cons : (r : Rewritten) (rs : List Rewritten) → supersededBlocks (r ∷ rs) ≡ r .superseded ++ supersededBlocks rs

@@ -19,14 +19,15 @@ use Rattle.rules.specs.Refusal.Outcome.{accept}
 use Rattle.rules.specs.Units.{validLength, unitsOf}
 use Rattle.rules.specs.Inspect.{Inspected, inspectUnit}
 use Rattle.rules.specs.Inspect.Inspected.{hole, checked}
-use Rattle.rules.specs.Read.{readLength, follow, thenUnits, checkUnits}
+use Rattle.rules.specs.Read.{readLength, follow, thenUnits, checkUnits, readOutcome}
 use Rattle.rules.specs.Read.Checked.{bytes}
-use Rattle.rules.specs.Call.{call, lentOut, outcome}
+use Rattle.rules.specs.Call.{call}
 use Rattle.rules.specs.Call.Look.{read}
 use Rattle.rules.specs.Call.Call.{look}
 use Rattle.rules.specs.Plain.{File, fileBytes, plainRead}
 use Rattle.rules.specs.Demand.{PlainAnswer, neverNumbers}
 use Rattle.rules.specs.Answers.{checkedBytes}
+use Rattle.rules.proofs.UnitListLaws.{unitsOf-some}
 use Rattle.rules.proofs.ByteLaws.{part-none, part-add, part-part}
 use Rattle.rules.proofs.PassLaws.{Passes}
 use Rattle.history.proofs.FileCallLaws.{ReadBytes, read-accepted, never-read}
@@ -82,13 +83,12 @@ plain-length xs offset room = simp (length-take, length-drop) (omega arith)
 -- the units that a read of some bytes touches, checked, have its bytes
 pub check-part : (v : Volume) (object : ℕ) (xs : List ℕ) → FileIs v object xs → (offset n : ℕ) → (n ≡ 0 → ⊥) → offset + n ≤ length xs
     → (found : List ℕ) × (checkUnits v object (length xs) (unitsOf offset (offset + n)) ≡ bytes found) × (part (offset % unitBytes) n found ≡ part offset n xs)
-unfolding unitsOf
 check-part v object xs h offset n z l =
     let f : ℕ = offset / unitBytes in
     let m : ℕ = begun (offset + n) unitBytes - f in
     let a : f * unitBytes + offset % unitBytes ≡ offset = omega arith in (
       part (f * unitBytes) (m * unitBytes) xs,
-      check-is v object xs h m f (λ u p q. omega arith),
+      ap (checkUnits v object (length xs)) (unitsOf-some offset (offset + n) (omega (arith, z))) ∙ check-is v object xs h m f (λ u p q. omega arith),
       part-part xs (f * unitBytes) (m * unitBytes) (offset % unitBytes) n (omega arith) ∙ ap (λ (k : ℕ). part k n xs) a,
     )
 
@@ -128,10 +128,10 @@ module _ (s : Store) (object : ℕ) (xs : List ℕ) (known : ObjectIs (decode s)
   -- every accepted read gives the plain array's bytes
   pub read-plain : (files : List File) → fileBytes files object ≡ some xs → call (look (read object offset out)) s .number ≡ 0
       → PlainAnswer files object offset out (call (look (read object offset out)) s)
-  unfolding call lentOut result
+  unfolding call result
   read-plain files e a =
       let r = read-accepted object offset out s a in
-      let k = read-bytes (r .card) (outcome (look (read object offset out)) s) (r .known) (r .done) in
+      let k = read-bytes (r .card) (readOutcome object offset out s) (r .known) (r .done) in
       let n : readLength (r .card .size) offset (length out) ≡ length (plainRead xs offset (length out)) = rw (known (r .card) (r .known) .0) (sym (plain-length xs offset (length out))) in
       rw k (record { bytes = xs; known = e; count = n; buffer = refl })
 

@@ -1,9 +1,9 @@
 -- The volume that a change leaves is lawful and in range, and has room in the buffers: so the store that is left says it.
 -- Assumes nothing.
 use mathlib.Core.Path.{_≡_, refl, sym, ap, _∙_}
-use mathlib.Core.List.{List, [], _∷_, map, flatMap}
+use mathlib.Core.List.{List, [], _∷_, map}
 use mathlib.Core.Bool.{true, _&&_}
-use mathlib.Core.Option.{Option, none, some}
+use mathlib.Core.Option.{some}
 use Prim.Native.Nat.{ℕ, _+_, _-_, _*_, _/_, _%_, _^_, _≤_, _<_}
 use native.Mathlib.Nat.{pow-suc}
 use native.Mathlib.Decide.{decLt}
@@ -13,7 +13,7 @@ use lib.ListN.{length, getD, List·getD-eq-default}
 use borrow.Author.Tests.{eqb-true, leb-true, le-leb}
 use Rattle.rules.specs.Time.{Time}
 use Rattle.rules.specs.Book.{bookPlaces}
-use Rattle.rules.specs.Lists.{maybe, given, all, ascending, begun}
+use Rattle.rules.specs.Lists.{given, all, ascending, begun}
 use Rattle.rules.specs.Sizes.{blockBytes, unitBlocks, unitBytes, mostBlocks, mostSize}
 use Rattle.rules.specs.Bytes.{Bytes, part}
 use Rattle.rules.specs.Card.{Card, cardBefore}
@@ -22,43 +22,37 @@ use Rattle.rules.specs.Group.{groupBytes, groupBefore}
 use Rattle.rules.specs.Map.{mapBytes}
 use Rattle.rules.specs.Checksum.{unitChecksum}
 use Rattle.rules.specs.Crc32c.{fromBits, complement, message, dividend, divide, crc32c}
-use Rattle.rules.specs.Store.{Store, Volume, headOf, encodeInto, blockAt, cardOf}
+use Rattle.rules.specs.Store.{Store, Volume, headOf, encodeInto, cardOf}
 use Rattle.rules.specs.Integrity.{ordered, timesRight, noneEmpty, noOverlap, onDevice, inFile, inFiles}
 use Rattle.rules.specs.Units.{Change, validLength}
-use Rattle.rules.specs.Inspect.{Inspected, inspectUnit, validBytes, backedBytes, validMapping}
+use Rattle.rules.specs.Inspect.{Inspected, inspectUnit, validBytes}
 use Rattle.rules.specs.Rewrite.{Progress, Rewritten}
 use Rattle.rules.specs.Finish.{finishedCards, finishedExtents, finishedGroups, finished}
-use Rattle.rules.proofs.ListLaws.{and-left, and-right, and-intro, all-weaken, any-index, find-given, find-passes, find-mem, Each, each-at, each-all, each-both, each-map, each-any, each-weaken}
-use Rattle.rules.proofs.ByteLaws.{bytes-nil, bytes-append, bytes-take, bytes-part, getD-part}
+use Rattle.rules.proofs.ListLaws.{and-left, and-right, and-intro, all-weaken, any-index, find-given, find-passes, find-mem, Each, each-at, each-all, each-both, each-map, each-any, each-weaken, getD-same}
+use Rattle.rules.proofs.ByteLaws.{bytes-part, getD-part}
 use Rattle.rules.proofs.DivisionLaws.{crc-divides}
 use Rattle.rules.proofs.CardLaws.{CardFits}
 use Rattle.rules.proofs.ExtentLaws.{ExtentFits}
 use Rattle.rules.proofs.StoreLaws.{VolumeFits}
 use Rattle.rules.proofs.PassLaws.{each-passed, all-passed, Lawful, Room, buffers-sized, Says, says-encodeInto}
 use Rattle.rules.proofs.EnterLaws.{TimeRight}
+use Rattle.rules.proofs.BytesKept.{bytes-valid, bytes-finishedImage}
 use Rattle.history.proofs.ReadLaws.{UnitIs, is-hole, is-checked, FileIs}
 use Rattle.rules.specs.Demand.{holders}
 use Rattle.history.proofs.ExtentsAfter.{device-after, files-after}
 use Rattle.history.proofs.RunLaws.{single}
-use Rattle.history.proofs.ImageAfter.{length-finishedImage, bytes-finishedImage}
+use Rattle.history.proofs.ImageAfter.{length-finishedImage}
 use Rattle.history.proofs.GroupsAfter.{ascending-finished, fits-finished}
-use Rattle.history.proofs.CardsAfter.{card-only, cardAfter, cards-are, card-mine, object-after, found-after, cards-order, cards-length, cards-times, cards-fit, file-stays}
+use Rattle.history.proofs.CardsAfter.{card-only, cardAfter, cards-are, size-mine, object-after, found-after, cards-order, cards-length, cards-times, cards-fit, file-stays}
 use Rattle.history.proofs.UnitLaws.{checked-means}
 use Rattle.history.proofs.ChangeLaws.{Becomes}
 use Rattle.history.proofs.PlanLaws.{Enough, unitPart}
 use Rattle.history.proofs.PlannedLaws.{Made, made-blocks, planned-hint, planned-enough}
 use Rattle.history.proofs.AfterUnits.{Carrying, made-all, laid-all, apart-old, apart-new}
 use Rattle.history.proofs.BlocksAfter.{each-newPlaces, new-sited, mapped-after-right, reserved-after, retired-after, used-past, retired-past}
-use Rattle.history.proofs.MoreLists.{any-each, each-mem, getD-same}
+use Rattle.history.proofs.MoreLists.{any-each, each-mem}
 
 -- ---- bytes
-
--- the blocks of an image of bytes are bytes
-bytes-blocks : (image : List ℕ) → Bytes image → (os : List (Option ℕ)) → Bytes (flatMap (maybe [] (blockAt image)) os)
-unfolding flatMap maybe
-bytes-blocks image b [] = bytes-nil
-bytes-blocks image b (none ∷ os) = bytes-blocks image b os
-bytes-blocks image b (some p ∷ os) = bytes-append (blockAt image p) (flatMap (maybe [] (blockAt image)) os) (unfold blockAt in bytes-part image (p * blockBytes) blockBytes b) (bytes-blocks image b os)
 
 -- a plain array that a volume's file has is one of bytes
 pub bytes-file : (v : Volume) (object : ℕ) (xs : List ℕ) → FileIs v object xs → Bytes (v .image) → Bytes xs
@@ -78,7 +72,7 @@ bytes-file v object xs f b i = go (decLt i (length xs))
     unit (is-hole e) h = omega (arith, ap (λ (zs : List ℕ). getD zs j 0) e ∙ getD-same (length (unitPart u xs)) 0 j)
     unit (is-checked {ys = zs} e) h =
         let c = checked-means v object (length xs) u zs h in
-        let k : Bytes (validBytes v object (length xs) u) = unfold validBytes backedBytes in bytes-take (validLength (length xs) u) _ (bytes-blocks (v .image) b (validMapping v object (length xs) u)) in
+        let k : Bytes (validBytes v object (length xs) u) = bytes-valid v object (length xs) u b in
         omega (arith, ap (λ (ws : List ℕ). getD ws j 0) (e ∙ c .bytes), k j)
 
     go : Dec (i < length xs) → getD xs i 0 < 256
@@ -118,7 +112,7 @@ checksum-below uuid object unit bytes = go _
 extent-fits : {cards : List Card} → Each CardFits cards → (n : ℕ) → n ≤ mostBlocks → (e : Extent) → inFile cards e ≡ true → e .physical + e .count ≤ n → ExtentFits e
 unfolding inFile extentEnd
 extent-fits {cards} f n m e t l =
-    let d : Card = record { object = 0; size = 0; allocated = 0; seconds = 0; nanoseconds = 0 } in
+    let d : Card = record { object = 0; size = 0; allocated = 0; changed = record { seconds = 0; nanoseconds = 0 } } in
     let i = any-index (λ c. eqb (c .object) (e .object) && leb (e .logical + e .count) (begun (c .size) blockBytes)) cards d t in
     let c : Card = getD cards (i .0) d in
     let k : CardFits c = each-at f (i .0) d (i .1) in
@@ -127,19 +121,19 @@ extent-fits {cards} f n m e t l =
     record { object = omega (arith, k .object, q); logical = omega (arith, k .size, b); physical = omega (arith, l, m); count = omega (arith, l, m) }
 
 -- what is known of the call besides
-pub record CallRight (v : Volume) (c : Change) (us : List ℕ) (p : Progress) (time reserved : ℕ) : Type 0 where
+pub record CallRight (v : Volume) (c : Change) (us : List ℕ) (p : Progress) (time : Time) (reserved : ℕ) : Type 0 where
   pub card : Card
   pub known : cardOf v (c .object) ≡ some card
   pub size : card .size ≡ c .oldSize
   pub fits : VolumeFits v
   pub few : v .blocks ≤ mostBlocks
   pub onePlace : (b : ℕ) → b < v .blocks → holders reserved v b ≡ 1
-  pub time : TimeRight time
+  pub timely : TimeRight time
   pub end : c .newSize ≤ mostSize
   pub enough : Enough v c us p
   pub hint : p .hint < 4
 
-module _ {v : Volume} {c : Change} {xs ys : List ℕ} {us : List ℕ} {p : Progress} {rs : List Rewritten} {q : Progress} {time reserved : ℕ}
+module _ {v : Volume} {c : Change} {xs ys : List ℕ} {us : List ℕ} {p : Progress} {rs : List Rewritten} {q : Progress} {time : Time} {reserved : ℕ}
     (d : Carrying v c xs ys us p rs q) (k : CallRight v c us p time reserved) where
   -- the volume that is left
   abbrev after-all : Volume
@@ -189,7 +183,7 @@ module _ {v : Volume} {c : Change} {xs ys : List ℕ} {us : List ℕ} {p : Progr
           → (eqb (moved x .object) (c .object) && leb (r .unit * unitBlocks + i + 1) (begun (moved x .size) blockBytes)) ≡ true
       one x t =
           let e : x .object ≡ c .object = sym (object-after c (q .allocated) time x) ∙ eqb-true (moved x .object) (c .object) t in
-          let z : moved x .size ≡ c .newSize = ap (λ (y : Card). y .size) (card-mine c (q .allocated) time x e) in
+          let z : moved x .size ≡ c .newSize = size-mine c (q .allocated) time x e in
           and-intro (eqb (moved x .object) (c .object)) (leb (r .unit * unitBlocks + i + 1) (begun (moved x .size) blockBytes)) t
           (rw z (le-leb (r .unit * unitBlocks + i + 1) (begun (c .newSize) blockBytes) ends))
 
@@ -210,7 +204,7 @@ module _ {v : Volume} {c : Change} {xs ys : List ℕ} {us : List ℕ} {p : Progr
   lawful-after = record {
     order = all-passed (ascending cardBefore after-cards) (ascending extentBefore after-extents ∷ ascending groupBefore (finishedGroups (c .object) rs (v .books .groups)) ∷ [])
         (cards-order c (q .allocated) time (v .books .cards) (in-order-before .0), (apart-new d .order, (ascending-finished (c .object) rs (v .books .groups) (in-order-before .1), tt)));
-    times = cards-times c (q .allocated) time (k .time .part) (v .books .cards) (d .lawful .times);
+    times = cards-times c (q .allocated) time (k .timely .part) (v .books .cards) (d .lawful .times);
     filled = apart-new d .filled;
     apart = apart-new d .apart;
     device = device-in;
@@ -225,7 +219,7 @@ module _ {v : Volume} {c : Change} {xs ys : List ℕ} {us : List ℕ} {p : Progr
   -- its cards are in range
   cards-in : Each CardFits after-cards
   cards-in =
-      cards-fit c (q .allocated) time (omega (arith, k .end)) (omega (arith, planned-enough (d .planned) (k .enough) .most)) (omega (arith, k .time .early)) (omega (arith, k .time .part))
+      cards-fit c (q .allocated) time (omega (arith, k .end)) (omega (arith, planned-enough (d .planned) (k .enough) .most)) (omega (arith, k .timely .early)) (omega (arith, k .timely .part))
       (v .books .cards) (k .fits .cards)
 
   -- the file's object is in range
@@ -279,7 +273,7 @@ module _ {v : Volume} {c : Change} {xs ys : List ℕ} {us : List ℕ} {p : Progr
   bytes-after : Bytes (v .image) → Bytes ys → Bytes (after-all .image)
   unfolding finished
   bytes-after b w =
-      bytes-finishedImage (v .blocks) (laid-all d) (each-weaken (λ r m. rw (m .right .bytes) (bytes-part ys (r .unit * unitBytes) unitBytes w)) (made-all d)) (v .image) b
+      bytes-finishedImage (each-weaken (λ r m. rw (m .right .bytes) (bytes-part ys (r .unit * unitBytes) unitBytes w)) (made-all d)) (v .image) b
 
   -- so the store that is left says it
   pub says-after : (s : Store) → Room s v → Bytes (v .image) → Bytes ys → length after-extents ≤ bookPlaces extentBytes (s .extents)

@@ -10,8 +10,8 @@ use native.Mathlib.Omega.{arith}
 use lib.Dec.{eqb, ltb}
 use lib.ListN.{length, take, drop, take-append-drop}
 use borrow.Author.Tests.{eqb-true, eqb-false, eq-eqb, ne-eqb, ltb-true, lt-ltb, le-ltb}
-use Rattle.rules.specs.Lists.{range, any, filter, count, member, ascending, neighbours}
-use Rattle.rules.proofs.ListLaws.{test-cases, clash, and-left, and-right, and-intro, or-cases, or-left, or-right, filter-yes, filter-no, count-append, count-yes, count-no, range-add, member-append, Each, each-none, each-more, each-weaken, each-any, ascending-first, ascending-tail}
+use Rattle.rules.specs.Lists.{range, any, filter, count, member, ascending, neighbours, if_then_else_}
+use Rattle.rules.proofs.ListLaws.{test-cases, clash, and-left, and-right, and-intro, or-cases, or-left, or-right, filter-yes, filter-no, count-append, count-yes, count-no, range-add, member-append, Each, each-none, each-more, each-weaken, each-any, ascending-first, ascending-tail, if-true, if-false}
 
 -- ---- tests
 
@@ -413,3 +413,17 @@ pub last-none : (xs : List ℕ) → getLast? xs ≡ none → xs ≡ []
 last-none [] e = refl
 last-none (x ∷ []) e = absurd (Option·none-ne-some x (sym e))
 last-none (x ∷ y ∷ ys) e = absurd (Option·none-ne-some _ (sym e))
+
+-- ---- one more element
+
+module _ {A : Type 0} (f : A → Bool) where
+  -- nothing counts 0
+  pub count-nil : count f [] ≡ 0
+  unfolding count filter
+  count-nil = refl
+
+  -- the first element and the others, counted
+  pub count-cons : (x : A) (xs : List A) → count f (x ∷ xs) ≡ (if f x then 1 else 0) + count f xs
+  count-cons x xs =
+      test-cases (count f (x ∷ xs) ≡ (if f x then 1 else 0) + count f xs) (f x)
+      (λ e. rw (count-yes f x xs e, if-true {A = ℕ} (f x) 1 0 e) (omega arith)) (λ e. rw (count-no f x xs e, if-false {A = ℕ} (f x) 1 0 e) (omega arith))

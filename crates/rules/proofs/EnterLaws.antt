@@ -22,7 +22,7 @@ use Rattle.rules.specs.Refusal.{result}
 use Rattle.rules.specs.Integrity.{ordered, timesRight, noneEmpty, noOverlap, onDevice, inFile, inFiles, mappedRight, reservedRight, retiredRight, cardTimesRight, storeCases, mappedUsed, mappedLive, mappedUnreserved}
 use Rattle.rules.specs.Arguments.{timeWrong, hasCard, cardsFull}
 use Rattle.rules.specs.Enter.{newCard, entered, enterCases, enterOutcome}
-use Rattle.rules.specs.Call.{InRange, call, lentOut, outcome}
+use Rattle.rules.specs.Call.{InRange, call}
 use Rattle.rules.specs.Call.Call.{enter}
 use Rattle.rules.proofs.ListLaws.{order-cases, if-cases, or-left, or-right, or-none-left, or-none-right, all-of, all-weaken, none-at, filter-yes, filter-no, filter-none, find-given, each-insert, length-insert, all-insert, ascending-insert}
 use Rattle.rules.proofs.CardLaws.{CardFits}
@@ -187,7 +187,7 @@ pub record EnterAccepted (object : ℕ) (time : Time) (s : Store) : Type 0 where
 
 -- so it is with an accepted one
 pub enter-accepted : (object : ℕ) (time : Time) (s : Store) → call (enter object time) s .number ≡ 0 → EnterAccepted object time s
-unfolding call outcome lentOut enterOutcome enterCases cardsFull result
+unfolding call enterOutcome enterCases cardsFull result
 enter-accepted object time s e =
     let f = through s [] (storeCases s) _ e in
     let t = through s [] (enterCases object time s) _ (sym (ap (λ o. result s [] o .number) (f .goesOn)) ∙ e) in

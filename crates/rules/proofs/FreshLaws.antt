@@ -8,7 +8,7 @@ use native.Mathlib.Omega.{arith}
 use lib.Dec.{eqb, leb, ltb}
 use lib.ListN.{length}
 use borrow.Author.Tests.{eqb-true, leb-true, not-false, lt-ltb, le-ltb}
-use Rattle.rules.specs.Lists.{all, ascending, neighbours}
+use Rattle.rules.specs.Lists.{all, neighbours}
 use Rattle.rules.specs.Bytes.{Bytes}
 use Rattle.rules.specs.Head.{uuidBytes}
 use Rattle.rules.specs.Map.{mapBytes}
@@ -17,7 +17,7 @@ use Rattle.rules.specs.Refusal.{result}
 use Rattle.rules.specs.Lengths.{buffersFit, headLength, freshLengthWrong}
 use Rattle.rules.specs.Integrity.{ordered, timesRight, noneEmpty, noOverlap, onDevice, inFiles, mappedBlocks, mappedRight, reservedRight, retiredRight, mappedUsed, mappedLive, mappedUnreserved}
 use Rattle.rules.specs.Fresh.{freshVolume, freshOutcome}
-use Rattle.rules.specs.Call.{InRange, call, lentOut, outcome}
+use Rattle.rules.specs.Call.{InRange, call}
 use Rattle.rules.specs.Call.Call.{fresh}
 use Rattle.rules.proofs.ListLaws.{and-intro, all-range-of, each-none}
 use Rattle.rules.proofs.StoreLaws.{VolumeFits}
@@ -45,7 +45,7 @@ fresh-right uuid reserved s e =
 
 -- so it is with an accepted one
 pub fresh-accepted : (uuid : List ℕ) (reserved : ℕ) (s : Store) → call (fresh uuid reserved) s .number ≡ 0 → FreshAccepted uuid reserved s
-unfolding call outcome lentOut freshOutcome
+unfolding call freshOutcome
 fresh-accepted uuid reserved s e =
     let t = through s [] _ _ e in
     record {

@@ -20,5 +20,8 @@ pub mod OutcomeLaws
 pub mod FreshLaws
 pub mod EnterLaws
 pub mod SettleLaws
+pub mod UnitListLaws
 pub mod CountLaws
 pub mod AllocationLaws
+pub mod KeptLaws
+pub mod BytesKept

@@ -8,7 +8,7 @@ use Prim.Native.Nat.{ℕ, zero, suc, _+_, _≤_, _<_}
 use native.Mathlib.Nat.{zero-add, suc-add, add-suc, add-zero, not-suc-le-zero, le-of-suc-le-suc}
 use native.Mathlib.Omega.{arith}
 use lib.Dec.{eqb, ltb}
-use lib.ListN.{length, take, drop, getD, length-append}
+use lib.ListN.{length, take, drop, getD, length-append, replicate}
 use lib.Arith.{lt-of-le-ne}
 use borrow.Author.Tests.{eqb-true, eqb-false, eq-eqb, ltb-true, ltb-false, lt-ltb}
 use Rattle.rules.specs.Lists.{if_then_else_, maybe, given, range, all, any, filter, count, find, member, ascending, insert, pairBefore, neighbours}
@@ -556,3 +556,9 @@ pairBefore-total a b c d n h =
     let same : c ≡ a → R = λ e.
     order-cases R d b (λ l. pairBefore-second c d a b e l) (λ q. absurd (h (sym e) (sym q))) (λ l. absurd (clash n (pairBefore-second a b c d (sym e) l))) in
     order-cases R c a (λ l. pairBefore-first c d a b l) same (λ l. absurd (clash n (pairBefore-first a b c d l)))
+
+-- one of many copies, or the default that is the same
+pub getD-same : {A : Type 0} (n : ℕ) (a : A) (i : ℕ) → getD (replicate n a) i a ≡ a
+getD-same zero a i = refl
+getD-same (suc n) a zero = refl
+getD-same (suc n) a (suc i) = getD-same n a i

@@ -2,14 +2,16 @@
 -- Assumes nothing.
 use mathlib.Core.Path.{_≡_, refl}
 use mathlib.Core.Logic.{_⊎_, inl, inr}
-use mathlib.Core.List.{List}
+use mathlib.Core.List.{List, []}
 use Prim.Native.Nat.{ℕ, _≤_}
 use native.Mathlib.Omega.{arith}
 use Rattle.rules.specs.Store.{Store}
 use Rattle.rules.specs.Refusal.{Refusal, Outcome, Result, numberOf, result}
 use Rattle.rules.specs.Refusal.Refusal.{wrong-length, broken-rule, no-card, card-exists, past-limit, below-size, bad-time, no-card-place, no-checksum, not-backed, nonzero-past-end, checksum-differs, no-space, count-disagrees, no-group-place, no-extent-place}
 use Rattle.rules.specs.Refusal.Outcome.{refuse, accept}
-use Rattle.rules.specs.Call.{Call, call, lentOut, outcome}
+use Rattle.rules.specs.Call.{Call, call}
+use Rattle.rules.specs.Call.Look.{read, fill}
+use Rattle.rules.specs.Call.Call.{fresh, enter, write, grow, settle, look}
 
 -- document 01's numbers are 1 to 16
 pub record Numbered (n : ℕ) : Type 0 where
@@ -48,7 +50,23 @@ unfolding result
 result-cases s out (refuse r) = inr (record { number = numbered r; count = refl; store = refl; buffer = refl })
 result-cases s out (accept n left filled) = inl refl
 
+-- the output buffer that a call lends, besides the store
+unfoldable pub lentOut : Call → List ℕ
+lentOut (fresh uuid reserved) = []
+lentOut (enter object time) = []
+lentOut (write object offset bytes time) = []
+lentOut (grow object size time) = []
+lentOut settle = []
+lentOut (look (read object offset out)) = out
+lentOut (look fill) = []
+
 -- so is every public one
 pub call-cases : (c : Call) (s : Store) → (call c s .number ≡ 0) ⊎ Unchanged s (lentOut c) (call c s)
-unfolding call
-call-cases c s = result-cases s (lentOut c) (outcome c s)
+unfolding call lentOut
+call-cases (fresh uuid reserved) s = result-cases s [] _
+call-cases (enter object time) s = result-cases s [] _
+call-cases (write object offset bytes time) s = result-cases s [] _
+call-cases (grow object size time) s = result-cases s [] _
+call-cases settle s = result-cases s [] _
+call-cases (look (read object offset out)) s = result-cases s out _
+call-cases (look fill) s = result-cases s [] _

@@ -21,7 +21,7 @@ use Rattle.rules.specs.Write.{writeFile, writeOutcome, growFile, growOut
 use Rattle.rules.specs.Read.{Checked, readLength, handOut, readUnits, readFile, readOutcome}
 use Rattle.rules.specs.Read.Checked.{failed, bytes}
 use Rattle.rules.specs.Settle.{settled, settleOutcome, fillOutcome}
-use Rattle.rules.specs.Call.{Look, call, lookOut, lentOut, lookOutcome, outcome}
+use Rattle.rules.specs.Call.{Look, call}
 use Rattle.rules.specs.Call.Look.{read, fill}
 use Rattle.rules.specs.Call.Call.{grow, settle, look}
 use Rattle.rules.proofs.ListLaws.{if-cases, if-true, maybe-cases, all-weaken, all-range-of, each-any}
@@ -85,7 +85,7 @@ pub record SettleAccepted (s : Store) : Type 0 where
 
 -- so it is with an accepted one
 pub settle-accepted : (s : Store) → call settle s .number ≡ 0 → SettleAccepted s
-unfolding call outcome lentOut settleOutcome result
+unfolding call settleOutcome result
 settle-accepted s e =
     let t = through s [] (storeCases s) _ e in
     record { passes = store-passes s (t .none); store = ap (λ o. result s [] o .store) (t .goesOn) }
@@ -124,7 +124,7 @@ hand-stays at n s out (bytes xs) = refl
 
 -- fill and read
 pub look-stays : (l : Look) (s : Store) → call (look l) s .store ≡ s
-unfolding call outcome lentOut lookOutcome lookOut readOutcome readFile readUnits fillOutcome result
+unfolding call readOutcome readFile readUnits fillOutcome result
 look-stays (read object offset out) s =
     first-stays s out (storeCases s) _ (card-stays s out object _ (λ c e.
     if-cases (Stays s out) (eqb (readLength (c .size) offset (length out)) 0) _ _ (λ q. refl) (λ q. hand-stays _ _ s out _)))
@@ -139,6 +139,6 @@ write-stays limit object offset xs time s h =
 -- a grow to the size that there is
 pub grow-stays : (object size : ℕ) (time : Time) (s : Store) → ((c : Card) → cardOf (decode s) object ≡ some c → size ≡ c .size)
     → call (grow object size time) s .store ≡ s
-unfolding call outcome lentOut growOutcome growFile result
+unfolding call growOutcome growFile result
 grow-stays object size time s h =
     first-stays s [] (storeCases s) _ (card-stays s [] object _ (λ c e. first-stays s [] _ _ (rw (if-true (eqb size (c .size)) _ _ (eq-eqb size (c .size) (h c e))) refl)))

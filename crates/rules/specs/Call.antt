@@ -6,7 +6,7 @@ use Rattle.rules.specs.Sizes.{mostRuns}
 use Rattle.rules.specs.Bytes.{Bytes}
 use Rattle.rules.specs.Time.{Time}
 use Rattle.rules.specs.Store.{Store}
-use Rattle.rules.specs.Refusal.{Outcome, Result, result}
+use Rattle.rules.specs.Refusal.{Result, result}
 use Rattle.rules.specs.Fresh.{freshOutcome}
 use Rattle.rules.specs.Enter.{enterOutcome}
 use Rattle.rules.specs.Write.{writeOutcome, growOutcome}
@@ -49,34 +49,12 @@ InRange (grow object size time) = Word object × Word size × WordTime time
 InRange settle = Unit {0}
 InRange (look l) = LookInRange l
 
--- the output buffer that a call lends, besides the store
-unfoldable pub lookOut : Look → List ℕ
-lookOut (read object offset out) = out
-lookOut fill = []
-
--- a call that changes the store lends none
-unfoldable pub lentOut : Call → List ℕ
-lentOut (fresh uuid reserved) = []
-lentOut (enter object time) = []
-lentOut (write object offset bytes time) = []
-lentOut (grow object size time) = []
-lentOut settle = []
-lentOut (look l) = lookOut l
-
--- what becomes of a call that leaves the store
-unfoldable pub lookOutcome : Look → Store → Outcome
-lookOutcome (read object offset out) s = readOutcome object offset out s
-lookOutcome fill s = fillOutcome s
-
--- what becomes of a call
-unfoldable pub outcome : Call → Store → Outcome
-outcome (fresh uuid reserved) s = freshOutcome uuid reserved s
-outcome (enter object time) s = enterOutcome object time s
-outcome (write object offset bytes time) s = writeOutcome mostRuns object offset bytes time s
-outcome (grow object size time) s = growOutcome object size time s
-outcome settle s = settleOutcome s
-outcome (look l) s = lookOutcome l s
-
--- what a call gives
+-- what a call gives: a write's blocks form at most four runs a unit; a read alone lends a buffer besides the store
 unfoldable pub call : Call → Store → Result
-call c s = result s (lentOut c) (outcome c s)
+call (fresh uuid reserved) s = result s [] (freshOutcome uuid reserved s)
+call (enter object time) s = result s [] (enterOutcome object time s)
+call (write object offset bytes time) s = result s [] (writeOutcome mostRuns object offset bytes time s)
+call (grow object size time) s = result s [] (growOutcome object size time s)
+call settle s = result s [] (settleOutcome s)
+call (look (read object offset out)) s = result s out (readOutcome object offset out s)
+call (look fill) s = result s [] (fillOutcome s)

@@ -12,7 +12,7 @@ use Rattle.rules.specs.Time.{Time}
 use Rattle.rules.specs.Card.{Card}
 use Rattle.rules.specs.Extent.{Extent, extentBefore, extentEnd, joins, joined}
 use Rattle.rules.specs.Group.{Group, groupBefore, emptyGroup, setChecksumSlot}
-use Rattle.rules.specs.Store.{Volume, withBooks, withMaps, withImage}
+use Rattle.rules.specs.Store.{Volume, remade}
 use Rattle.rules.specs.Units.{Change}
 use Rattle.rules.specs.Rewrite.{Rewritten, Progress}
 
@@ -141,10 +141,9 @@ finishedImage (r ∷ rs) image = finishedImage rs (writeNew (r .bytes) 0 (r .kep
 
 -- the volume that a change leaves: "Superseded blocks become retired and stay used until settle"
 unfoldable pub finished : Change → Time → List Rewritten → Progress → Volume → Volume
-finished c time rs p v =
-    withBooks (record {
-      cards = finishedCards c (p .allocated) time (v .books .cards);
-      extents = finishedExtents (c .object) rs (v .books .extents);
-      groups = finishedGroups (c .object) rs (v .books .groups);
-    }) (withMaps (λ n. v .used n || member n (newBlocks rs)) (λ n. v .retired n || member n (supersededBlocks rs))
-    (withImage (finishedImage rs (v .image)) (p .hint) v))
+finished c time rs p v = remade (record {
+  cards = finishedCards c (p .allocated) time (v .books .cards);
+  extents = finishedExtents (c .object) rs (v .books .extents);
+  groups = finishedGroups (c .object) rs (v .books .groups);
+}) (λ n. v .used n || member n (newBlocks rs)) (λ n. v .retired n || member n (supersededBlocks rs))
+    (finishedImage rs (v .image)) (p .hint) v

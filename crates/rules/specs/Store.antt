@@ -87,44 +87,26 @@ decodeWith h s = record {
 unfoldable pub decode : Store → Volume
 decode s = decodeWith (decodeHead (s .head)) s
 
--- the volume with other books
-abbrev pub withBooks : Books → Volume → Volume
-withBooks b v = record {
-  uuid = v .uuid;
-  blocks = v .blocks;
-  reserved = v .reserved;
-  hint = v .hint;
-  books = b;
-  used = v .used;
-  retired = v .retired;
-  image = v .image;
-}
-
--- with other maps
-abbrev pub withMaps : (used retired : ℕ → Bool) → Volume → Volume
-withMaps used retired v = record {
-  uuid = v .uuid;
-  blocks = v .blocks;
-  reserved = v .reserved;
-  hint = v .hint;
-  books = v .books;
-  used = used;
-  retired = retired;
-  image = v .image;
-}
-
--- with another image, and the hint that goes with what was written there
-abbrev pub withImage : List ℕ → ℕ → Volume → Volume
-withImage image hint v = record {
+-- the volume with other books, maps, image and hint
+abbrev pub remade : Books → (used retired : ℕ → Bool) → (image : List ℕ) → (hint : ℕ) → Volume → Volume
+remade books used retired image hint v = record {
   uuid = v .uuid;
   blocks = v .blocks;
   reserved = v .reserved;
   hint = hint;
-  books = v .books;
-  used = v .used;
-  retired = v .retired;
+  books = books;
+  used = used;
+  retired = retired;
   image = image;
 }
+
+-- with other books alone
+abbrev pub withBooks : Books → Volume → Volume
+withBooks books v = remade books (v .used) (v .retired) (v .image) (v .hint) v
+
+-- with other maps alone
+abbrev pub withMaps : (used retired : ℕ → Bool) → Volume → Volume
+withMaps used retired v = remade (v .books) used retired (v .image) (v .hint) v
 
 -- the head of a volume
 unfoldable pub headOf : Volume → Head

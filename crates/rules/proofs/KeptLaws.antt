@@ -9,12 +9,13 @@ use native.Mathlib.Nat.{zero-add}
 use native.Mathlib.Decide.{decLt}
 use native.Mathlib.Omega.{arith}
 use lib.Dec.{leb}
+use borrow.Author.Tests.{leb-true}
 use lib.ListN.{length, getD, replicate, length-map, length-replicate, List·getD-eq-default}
 use Rattle.rules.specs.Lists.{if_then_else_, given, range, count}
 use Rattle.rules.specs.Units.{Change}
-use Rattle.rules.specs.Kept.{intact, blocksAfter, candidates, runs, withinLimit, retainedBlocks, wanted, assigned, superseded}
-use Rattle.rules.proofs.ListLaws.{if-cases, and-left, and-right, count-yes, count-no, count-le, length-range, getD-map-range}
-use Rattle.history.proofs.MoreLists.{count-cons, count-nil, getD-same}
+use Rattle.rules.specs.Kept.{intact, continues, blocksAfter, candidates, runs, withinLimit, retainedBlocks, wanted, assigned, superseded}
+use Rattle.rules.proofs.ListLaws.{getD-same, if-cases, and-left, and-right, count-yes, count-no, count-le, length-range, getD-map-range}
+use Rattle.rules.proofs.CountLaws.{count-cons, count-nil}
 
 -- the blocks that are there
 unfoldable pub there : List (Option ℕ) → List ℕ
@@ -150,3 +151,20 @@ module _ (limit : ℕ) (c : Change) (unit : ℕ) (verified : Bool) (old : List (
       let ks : List (Option ℕ) = candidates c unit verified old in
       if-cases (λ (xs : List (Option ℕ)). getD xs i none ≡ some p → KeptFor c unit verified old i p) (leb (runs ks) limit) ks (replicate (length ks) none)
       (λ t e. candidates-for i p e) (λ t e. absurd (Option·none-ne-some p (sym (getD-same {A = Option ℕ} (length ks) none i) ∙ e)))
+
+-- ---- runs
+
+-- blocks of which none is kept are one run, or none
+runs-none : (n : ℕ) → runs (replicate n none) ≤ 1
+unfolding runs continues if_then_else_
+runs-none zero = omega arith
+runs-none (suc zero) = omega arith
+runs-none (suc (suc n)) = omega (arith, runs-none (suc n))
+
+-- what is kept of a unit forms no more runs than the limit. A limit of 0 is none: a unit of which nothing is kept is one run
+pub retained-runs : (limit : ℕ) → 1 ≤ limit → (c : Change) (unit : ℕ) (verified : Bool) (old : List (Option ℕ)) → runs (retainedBlocks limit c unit verified old) ≤ limit
+unfolding retainedBlocks withinLimit
+retained-runs limit l c unit verified old =
+    let ks : List (Option ℕ) = candidates c unit verified old in
+    if-cases (λ (xs : List (Option ℕ)). runs xs ≤ limit) (leb (runs ks) limit) ks (replicate (length ks) none)
+    (λ e. leb-true (runs ks) limit e) (λ e. omega (arith, l, runs-none (length ks)))
