@@ -66,11 +66,11 @@ pub record Broken : Type 0 where
   pub extents-ordered : told (full (withFiles (card 8 1 12 13 ∷ eight ∷ []) (extent 0 3 1 ∷ eighth 0 ∷ []) (small 2 1))) ≡ sound 1000
   pub extents-order : told (full (withFiles (card 8 1 12 13 ∷ eight ∷ []) (eighth 0 ∷ extent 0 3 1 ∷ []) (small 2 1))) ≡ books
   -- a group of file 7 before one of file 6, group 1 before group 0, and group 0 twice
-  pub groups-ordered : told (withGroups (emptyGroup 6 1 ∷ zeroth ∷ []) (small 1 2)) ≡ sound 500
-  pub groups-numbered : told (withGroups (zeroth ∷ emptyGroup 7 1 ∷ []) (small 1 2)) ≡ sound 500
-  pub groups-order : told (withGroups (zeroth ∷ emptyGroup 6 1 ∷ []) (small 1 2)) ≡ books
-  pub groups-number : told (withGroups (emptyGroup 7 1 ∷ zeroth ∷ []) (small 1 2)) ≡ books
-  pub groups-twice : told (withGroups (zeroth ∷ zeroth ∷ []) (small 1 2)) ≡ books
+  pub groups-ordered : told (withGroups (emptyGroup 6 1 ∷ zeroth 1 ∷ []) (small 1 2)) ≡ sound 500
+  pub groups-numbered : told (withGroups (zeroth 1 ∷ emptyGroup 7 1 ∷ []) (small 1 2)) ≡ sound 500
+  pub groups-order : told (withGroups (zeroth 1 ∷ emptyGroup 6 1 ∷ []) (small 1 2)) ≡ books
+  pub groups-number : told (withGroups (emptyGroup 7 1 ∷ zeroth 1 ∷ []) (small 1 2)) ≡ books
+  pub groups-twice : told (withGroups (zeroth 1 ∷ zeroth 1 ∷ []) (small 1 2)) ≡ books
   -- "zeros after the last record": the first byte behind it and the book's last
   pub behind : told (cardByte 32 1 (small 1 2)) ≡ books
   pub behind-last : told (cardByte 63 1 (small 1 2)) ≡ books

@@ -3,4 +3,5 @@ pub mod Run
 pub mod Refused
 pub mod WrongLengths
 pub mod BrokenRules
+pub mod Runs
 pub mod KeptBlocks

@@ -1,12 +1,15 @@
 -- The definitions run: a short history on a store of four blocks, computed by the checker and equal to answers, extents and cards that were
--- worked out by hand from document 01's sentences; and a call for each refusal.
+-- worked out by hand from document 01's sentences.
 --
 -- The store: four blocks, one of them reserved, so that blocks 1, 2 and 3 can be taken. File 7 has five bytes, then two of them are
 -- overwritten, then it grows to eight; each change moves its one block on, and retires the one before.
 -- Assumes nothing.
 use mathlib.Core.Path.{_≡_, refl}
 use mathlib.Core.List.{[], _∷_}
+use mathlib.Core.Option.{some}
 use lib.ListN.{replicate}
+use Rattle.rules.specs.Store.{decode}
+use Rattle.rules.specs.Inspect.{checksumOf}
 use Rattle.rules.specs.Call.{call}
 use Rattle.rules.specs.Call.Call.{fresh, enter, write, grow, settle, look}
 use Rattle.rules.specs.Call.Look.{read, fill}
@@ -27,6 +30,7 @@ pub record History : Type 0 where
   -- blocks 1 and 2 were superseded
   pub settle-answer : answer settle grown ≡ (0, 2)
   pub settle-extents : extents done ≡ extent 0 3 1 ∷ []
+  pub settle-checksum : checksumOf (decode done) 7 0 ≡ some 3593734301
   -- blocks 0 and 3 of four are used
   pub fill-answer : answer (look fill) done ≡ (0, 500)
   -- four bytes from the second on, and the rest of the buffer as it was
@@ -52,6 +56,7 @@ history = record {
   grow-card = refl;
   settle-answer = refl;
   settle-extents = refl;
+  settle-checksum = refl;
   fill-answer = refl;
   read-answer = refl;
   read-bytes = refl;

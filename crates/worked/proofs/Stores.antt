@@ -1,14 +1,15 @@
 -- The stores of the worked examples, and what is looked at in them.
 -- Assumes nothing.
-use mathlib.Core.List.{List, [], _∷_}
+use mathlib.Core.List.{List, [], _∷_, _++_}
 use mathlib.Core.Option.{some}
 use Prim.Native.Nat.{ℕ, _*_}
 use lib.ListN.{replicate}
-use Rattle.rules.specs.Bytes.{patch, bitSet}
+use Rattle.rules.specs.Bytes.{patch, padded, bitSet}
 use Rattle.rules.specs.Time.{Time}
 use Rattle.rules.specs.Card.{Card}
 use Rattle.rules.specs.Extent.{Extent}
 use Rattle.rules.specs.Group.{Group, emptyGroup, setChecksumSlot}
+use Rattle.rules.specs.Book.{Books}
 use Rattle.rules.specs.Store.{Store, lent, decode, encodeInto, withBooks}
 use Rattle.rules.specs.Call.{Call, call}
 use Rattle.rules.specs.Call.Call.{fresh, enter, write, grow, settle}
@@ -112,31 +113,36 @@ withGroups gs s = booked (decode s .books .cards) (decode s .books .extents) gs 
 unfoldable pub second : Store → Store
 second s = run (enter 8 (time 1 1) ∷ []) s
 
--- file 7 with the bytes 1 to 5, two extent places and one group place
-unfoldable pub oneGroup : Store
-oneGroup = run (fresh uuid 1 ∷ enter 7 (time 5 6) ∷ write 7 0 (1 ∷ 2 ∷ 3 ∷ 4 ∷ 5 ∷ []) (time 8 9) ∷ []) (zeros 4 2 2 1)
+-- ---- stores made from their records: no call is computed for them
 
--- ---- a store made from its records, for refusals 1 and 2: no checksum is computed
+-- a group of file 7 with this checksum of its first unit
+unfoldable pub zeroth : ℕ → Group
+zeroth crc = setChecksumSlot (emptyGroup 7 0) 0 (some crc)
 
--- a group of file 7 with its first slot present
-unfoldable pub zeroth : Group
-zeroth = setChecksumSlot (emptyGroup 7 0) 0 (some 1)
-
--- four blocks, block 0 reserved and block 3 file 7's; two card places, and so many of extents and groups
-unfoldable pub small : ℕ → ℕ → Store
-small extents groups = encodeInto (zeros 4 2 extents groups) (record {
+-- the store of this volume's records, block 0 reserved, hint 0 and none retired; its books have two card places and so many of extents and groups
+unfoldable pub made : (blocks extents groups : ℕ) → Books → (used : ℕ) → (image : List ℕ) → Store
+made blocks extents groups books used image = encodeInto (zeros blocks 2 extents groups) (record {
   uuid = uuid;
-  blocks = 4;
+  blocks = blocks;
   reserved = 1;
   hint = 0;
-  books = record { cards = card 8 1 12 13 ∷ []; extents = extent 0 3 1 ∷ []; groups = zeroth ∷ [] };
-  used = bitSet (9 ∷ []);
+  books = books;
+  used = bitSet (used ∷ []);
   retired = bitSet [];
-  image = zeros 4 2 extents groups .image;
+  image = image;
 })
+
+-- file 7 as the history of `Run` leaves it; the places are parameters
+unfoldable pub small : ℕ → ℕ → Store
+small extents groups =
+    made 4 extents groups (record { cards = card 8 1 12 13 ∷ []; extents = extent 0 3 1 ∷ []; groups = zeroth 3593734301 ∷ [] }) 9
+    (padded 4096 []
+    ++ padded 4096 (1 ∷ 2 ∷ 3 ∷ 4 ∷ 5 ∷ [])
+    ++ padded 4096 (1 ∷ 2 ∷ 9 ∷ 9 ∷ 5 ∷ [])
+    ++ padded 4096 (1 ∷ 2 ∷ 9 ∷ 9 ∷ 5 ∷ 0 ∷ 0 ∷ 0 ∷ []))
 
 -- ---- all of them opened by one name, with every definition of `rules`
 
 unfoldable pub computed : Unit {0}
-unfolding opened zeros uuid written overwritten grown done answer extents cards extent card withHead mapped imageByte cardByte extentByte groupByte booked withCards withFiles withGroups second oneGroup zeroth small
+unfolding opened zeros uuid written overwritten grown done answer extents cards extent card withHead mapped imageByte cardByte extentByte groupByte booked withCards withFiles withGroups second zeroth made small
 computed = tt
