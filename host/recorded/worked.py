@@ -1,5 +1,5 @@
 #!/usr/bin/env python3
-"""Writes crates/worked/proofs/Recorded.antt: recorded answers as theorems that the checker computes from the definitions.
+"""Writes crates/recorded_answers/proofs/Recorded.antt: recorded answers as theorems that the checker computes from the definitions.
 
     python3 host/recorded/worked.py        (from the repository's top; `rt fmt` lays the file out)
 
@@ -19,11 +19,17 @@ HEADER = '''-- Recorded answers of the Rust and of the model (host/recorded/answ
 use mathlib.Core.Path.{_≡_, refl}
 use mathlib.Core.List.{List, [], _∷_, _++_}
 use Prim.Native.Nat.{ℕ, zero, suc, _+_, _%_}
+use Rattle.rules.specs.Time.{Time}
 use Rattle.rules.specs.Store.{Store}
 use Rattle.rules.specs.Refusal.{Result}
 use Rattle.rules.specs.Call.{call}
-use Rattle.rules.specs.Call.Call.{fresh, enter, write, grow, read, settle, fill}
+use Rattle.rules.specs.Call.Look.{read, fill}
+use Rattle.rules.specs.Call.Call.{fresh, enter, write, grow, settle, look}
 use Rattle.rules.proofs.Opened.{opened}
+
+-- so many seconds, and nanoseconds
+abbrev pub time : ℕ → ℕ → Time
+time seconds nanoseconds = record { seconds = seconds; nanoseconds = nanoseconds }
 
 -- n bytes from b on, each a step above the one before, modulo 256
 pub ramp : ℕ → ℕ → ℕ → List ℕ
@@ -128,7 +134,12 @@ def written(data):
 
 
 def written_call(call):
-    return ' '.join([call[0]] + ['(%s)' % written(part) if isinstance(part, bytes) else str(part) for part in call[1:]])
+    """The last two numbers of a call that changes a file are its time; a call that leaves the store is a look."""
+    words = ['(%s)' % written(part) if isinstance(part, bytes) else str(part) for part in call[1:]]
+    if call[0] in ('enter', 'write', 'grow'):
+        words[-2:] = ['(time %s %s)' % tuple(words[-2:])]
+    form = ' '.join([call[0]] + words)
+    return 'look (%s)' % form if call[0] in ('read', 'fill') else form
 
 
 def written_store(store):
@@ -173,7 +184,7 @@ def main():
         text.append('pub entry%d : call (%s) before%d ≡ record { number = %d; count = %d; store = %s; out = %s }'
                     % (n, written_call(call), n, number, count, left, written(out)))
         text.append('unfolding opened ramp before%d%s\nentry%d = refl\n' % (n, '' if store == after else ' ' + left, n))
-    with open('crates/worked/proofs/Recorded.antt', 'w', encoding='utf-8') as f:
+    with open('crates/recorded_answers/proofs/Recorded.antt', 'w', encoding='utf-8') as f:
         f.write('\n'.join(text))
     print(f'{sum(taken.values())} calls:', ', '.join(f'{k} {n}' for (k, n, s), c in sorted(taken.items()) for _ in range(c)))
 

@@ -1,11 +1,11 @@
--- Document 01, "Cases": P1 to P11 as one table, by computation of the definitions.
+-- Document 01, "Cases": P1 to P11 as one table, by computation of the definitions, and two beside P8 and P9.
 -- Assumes nothing.
 use mathlib.Core.Path.{_≡_, refl}
 use mathlib.Core.List.{List, [], _∷_}
 use mathlib.Core.Bool.{true, false}
 use mathlib.Core.Option.{Option, none, some}
 use Prim.Native.Nat.{ℕ, _*_}
-use lib.ListN.{length}
+use lib.ListN.{length, replicate}
 use Rattle.rules.specs.Sizes.{mostRuns}
 use Rattle.rules.specs.Extent.{Extent, joins}
 use Rattle.rules.specs.Group.{Group, emptyGroup, setChecksumSlot, compactGroup}
@@ -30,6 +30,11 @@ extent logical physical count = record { object = 7; logical = logical; physical
 pub keptOf : List (Option ℕ) → List (Option ℕ)
 keptOf old = retainedBlocks mostRuns (growChange 7 (4096 * length old) (4096 * length old)) 0 true old
 
+-- the same of five full blocks at 10, 20, 30, 40 and 50, by so many bytes written from this place on
+pub keptBy : ℕ → ℕ → List (Option ℕ)
+keptBy offset n =
+    retainedBlocks mostRuns (writeChange 7 (4096 * 5) offset (replicate n 1)) 0 true (some 10 ∷ some 20 ∷ some 30 ∷ some 40 ∷ some 50 ∷ [])
+
 -- the units of one byte written into a file of this size
 pub unitsOfByte : ℕ → ℕ → List ℕ
 unitsOfByte size offset = writeUnits (writeChange 7 size offset (1 ∷ []))
@@ -44,11 +49,14 @@ pub record Table : Type 0 where
   pub p7 : joins (extent 0 0 4294967295) (extent 4294967295 4294967295 1) ≡ false
   pub p8 : keptOf (some 10 ∷ some 20 ∷ some 30 ∷ some 40 ∷ []) ≡ some 10 ∷ some 20 ∷ some 30 ∷ some 40 ∷ []
   pub p9 : keptOf (some 10 ∷ some 20 ∷ some 30 ∷ some 40 ∷ some 50 ∷ []) ≡ none ∷ none ∷ none ∷ none ∷ none ∷ []
+  -- beside P8 and P9: two blocks written side by side are one run of four, one of them alone is one of five
+  pub p8-new : keptBy 12287 2 ≡ some 10 ∷ some 20 ∷ none ∷ none ∷ some 50 ∷ []
+  pub p9-new : keptBy 8192 1 ≡ none ∷ none ∷ none ∷ none ∷ none ∷ []
   pub p10 : unitsOfByte 70000 200000 ≡ 1 ∷ 3 ∷ []
   pub p11 : unitsOfByte 65536 200000 ≡ 3 ∷ []
 
 pub cases : Table
-unfolding opened groupWith compactLength extent keptOf unitsOfByte
+unfolding opened groupWith compactLength extent keptOf keptBy unitsOfByte
 cases = record {
   p1 = refl;
   p2 = refl;
@@ -59,6 +67,8 @@ cases = record {
   p7 = refl;
   p8 = refl;
   p9 = refl;
+  p8-new = refl;
+  p9-new = refl;
   p10 = refl;
   p11 = refl;
 }

@@ -1,6 +1,12 @@
 pub mod Stores
-pub mod Run
-pub mod Refused
+pub mod Records
+pub mod Spans
+pub mod NewBlocks
+pub mod Books
+pub mod Runs
+pub mod WrongLengths
 pub mod BrokenRules
+pub mod Refused
+pub mod Order
+pub mod Run
 pub mod KeptBlocks
-pub mod Recorded

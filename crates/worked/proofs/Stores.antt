@@ -1,13 +1,16 @@
 -- The stores of the worked examples, and what is looked at in them.
 -- Assumes nothing.
-use mathlib.Core.List.{List, [], _∷_}
+use mathlib.Core.List.{List, [], _∷_, _++_}
+use mathlib.Core.Option.{some}
 use Prim.Native.Nat.{ℕ, _*_}
 use lib.ListN.{replicate}
-use Rattle.rules.specs.Bytes.{patch}
+use Rattle.rules.specs.Bytes.{patch, padded, bitSet}
+use Rattle.rules.specs.Time.{Time}
 use Rattle.rules.specs.Card.{Card}
 use Rattle.rules.specs.Extent.{Extent}
+use Rattle.rules.specs.Group.{Group, emptyGroup, setChecksumSlot}
 use Rattle.rules.specs.Book.{Books}
-use Rattle.rules.specs.Store.{Store, Volume, decode, encodeInto}
+use Rattle.rules.specs.Store.{Store, lent, decode, encodeInto, withBooks}
 use Rattle.rules.specs.Call.{Call, call}
 use Rattle.rules.specs.Call.Call.{fresh, enter, write, grow, settle}
 use Rattle.rules.specs.Demand.{run}
@@ -15,30 +18,28 @@ use Rattle.rules.proofs.Opened.{opened}
 
 -- a store of so many blocks, and books of so many places, all zeros
 unfoldable pub zeros : ℕ → ℕ → ℕ → ℕ → Store
-zeros blocks cards extents groups = record {
-  image = replicate (blocks * 4096) 0;
-  head = replicate 28 0;
-  cards = replicate (cards * 32) 0;
-  extents = replicate (extents * 33) 0;
-  groups = replicate (groups * 1073) 0;
-  used = replicate 8 0;
-  retired = replicate 8 0;
-}
+zeros blocks cards extents groups =
+    lent (replicate (blocks * 4096) 0) (replicate 28 0) (replicate (cards * 32) 0) (replicate (extents * 33) 0) (replicate (groups * 1073) 0)
+    (replicate 8 0) (replicate 8 0)
+
+-- so many seconds, and nanoseconds
+abbrev pub time : ℕ → ℕ → Time
+time seconds nanoseconds = record { seconds = seconds; nanoseconds = nanoseconds }
 
 unfoldable pub uuid : List ℕ
 uuid = replicate 16 1
 
 -- file 7 with the bytes 1 to 5
 unfoldable pub written : Store
-written = run (fresh uuid 1 ∷ enter 7 5 6 ∷ write 7 0 (1 ∷ 2 ∷ 3 ∷ 4 ∷ 5 ∷ []) 8 9 ∷ []) (zeros 4 2 1 2)
+written = run (fresh uuid 1 ∷ enter 7 (time 5 6) ∷ write 7 0 (1 ∷ 2 ∷ 3 ∷ 4 ∷ 5 ∷ []) (time 8 9) ∷ []) (zeros 4 2 1 2)
 
 -- 1 2 9 9 5
 unfoldable pub overwritten : Store
-overwritten = run (write 7 2 (9 ∷ 9 ∷ []) 10 11 ∷ []) written
+overwritten = run (write 7 2 (9 ∷ 9 ∷ []) (time 10 11) ∷ []) written
 
 -- 1 2 9 9 5 0 0 0
 unfoldable pub grown : Store
-grown = run (grow 7 8 12 13 ∷ []) overwritten
+grown = run (grow 7 8 (time 12 13) ∷ []) overwritten
 
 -- and its retired blocks free again
 unfoldable pub done : Store
@@ -50,94 +51,98 @@ done = run (settle ∷ []) grown
 unfoldable pub answer : Call → Store → ℕ × ℕ
 answer c s = (call c s .number, call c s .count)
 
+-- what its books hold
 unfoldable pub extents : Store → List Extent
 extents s = decode s .books .extents
 
 unfoldable pub cards : Store → List Card
 cards s = decode s .books .cards
 
+-- an extent of file 7: its logical and physical blocks, and their number
 unfoldable pub extent : ℕ → ℕ → ℕ → Extent
 extent logical physical count = record { object = 7; logical = logical; physical = physical; count = count }
 
+-- a card of file 7
 unfoldable pub card : ℕ → ℕ → ℕ → ℕ → Card
-card size allocated seconds nanoseconds = record { object = 7; size = size; allocated = allocated; seconds = seconds; nanoseconds = nanoseconds }
+card size allocated seconds nanoseconds = record { object = 7; size = size; allocated = allocated; changed = time seconds nanoseconds }
 
 -- ---- damaged copies
 
 -- the store with another head
 unfoldable pub withHead : List ℕ → Store → Store
-withHead head s = record {
-  image = s .image;
-  head = head;
-  cards = s .cards;
-  extents = s .extents;
-  groups = s .groups;
-  used = s .used;
-  retired = s .retired;
-}
+withHead head s = lent (s .image) head (s .cards) (s .extents) (s .groups) (s .used) (s .retired)
 
--- the store with other maps
-unfoldable pub withMaps : List ℕ → List ℕ → Store → Store
-withMaps used retired s = record {
-  image = s .image;
-  head = s .head;
-  cards = s .cards;
-  extents = s .extents;
-  groups = s .groups;
-  used = used;
-  retired = retired;
-}
+-- with these maps, the first byte of each: the blocks of these stores are few
+unfoldable pub mapped : ℕ → ℕ → Store → Store
+mapped used retired s =
+    lent (s .image) (s .head) (s .cards) (s .extents) (s .groups) (used ∷ replicate 7 0) (retired ∷ replicate 7 0)
 
--- the store with another byte in its image
-unfoldable pub withByte : ℕ → ℕ → Store → Store
-withByte at b s = record {
-  image = patch (s .image) at (b ∷ []);
-  head = s .head;
-  cards = s .cards;
-  extents = s .extents;
-  groups = s .groups;
-  used = s .used;
-  retired = s .retired;
-}
+-- with another byte in its image
+unfoldable pub imageByte : ℕ → ℕ → Store → Store
+imageByte at b s = lent (patch (s .image) at (b ∷ [])) (s .head) (s .cards) (s .extents) (s .groups) (s .used) (s .retired)
 
--- the volume with other books
-unfoldable pub withBooks : Books → Volume → Volume
-withBooks b v = record {
-  uuid = v .uuid;
-  blocks = v .blocks;
-  reserved = v .reserved;
-  hint = v .hint;
-  books = b;
-  used = v .used;
-  retired = v .retired;
-  image = v .image;
-}
+-- in its card book
+unfoldable pub cardByte : ℕ → ℕ → Store → Store
+cardByte at b s = lent (s .image) (s .head) (patch (s .cards) at (b ∷ [])) (s .extents) (s .groups) (s .used) (s .retired)
 
--- the store without its groups
-unfoldable pub noGroups : Store → Store
-noGroups s =
-    encodeInto s (withBooks (record { cards = decode s .books .cards; extents = decode s .books .extents; groups = [] }) (decode s))
+-- in its extent book
+unfoldable pub extentByte : ℕ → ℕ → Store → Store
+extentByte at b s = lent (s .image) (s .head) (s .cards) (patch (s .extents) at (b ∷ [])) (s .groups) (s .used) (s .retired)
 
--- the store without its extents
-unfoldable pub noExtents : Store → Store
-noExtents s =
-    encodeInto s (withBooks (record { cards = decode s .books .cards; extents = []; groups = decode s .books .groups }) (decode s))
+-- in its group book
+unfoldable pub groupByte : ℕ → ℕ → Store → Store
+groupByte at b s = lent (s .image) (s .head) (s .cards) (s .extents) (patch (s .groups) at (b ∷ [])) (s .used) (s .retired)
 
--- the store with these cards
+-- with these books
+unfoldable pub booked : List Card → List Extent → List Group → Store → Store
+booked cs es gs s = encodeInto s (withBooks (record { cards = cs; extents = es; groups = gs }) (decode s))
+
+-- with these cards
 unfoldable pub withCards : List Card → Store → Store
-withCards cs s =
-    encodeInto s (withBooks (record { cards = cs; extents = decode s .books .extents; groups = decode s .books .groups }) (decode s))
+withCards cs s = booked cs (decode s .books .extents) (decode s .books .groups) s
 
--- a byte written to file 8, which is entered first
+-- with these cards and extents
+unfoldable pub withFiles : List Card → List Extent → Store → Store
+withFiles cs es s = booked cs es (decode s .books .groups) s
+
+-- with these groups
+unfoldable pub withGroups : List Group → Store → Store
+withGroups gs s = booked (decode s .books .cards) (decode s .books .extents) gs s
+
+-- file 8 entered too
 unfoldable pub second : Store → Store
-second s = run (enter 8 1 1 ∷ []) s
+second s = run (enter 8 (time 1 1) ∷ []) s
 
--- file 7 with the bytes 1 to 5, and one group place
-unfoldable pub oneGroup : Store
-oneGroup = run (fresh uuid 1 ∷ enter 7 5 6 ∷ write 7 0 (1 ∷ 2 ∷ 3 ∷ 4 ∷ 5 ∷ []) 8 9 ∷ []) (zeros 4 2 2 1)
+-- ---- stores made from their records: no call is computed for them
+
+-- a group of file 7 with this checksum of its first unit
+unfoldable pub zeroth : ℕ → Group
+zeroth crc = setChecksumSlot (emptyGroup 7 0) 0 (some crc)
+
+-- the store of this volume's records, block 0 reserved, hint 0 and none retired; its books have two card places and so many of extents and groups
+unfoldable pub made : (blocks extents groups : ℕ) → Books → (used : ℕ) → (image : List ℕ) → Store
+made blocks extents groups books used image = encodeInto (zeros blocks 2 extents groups) (record {
+  uuid = uuid;
+  blocks = blocks;
+  reserved = 1;
+  hint = 0;
+  books = books;
+  used = bitSet (used ∷ []);
+  retired = bitSet [];
+  image = image;
+})
+
+-- file 7 as the history of `Run` leaves it; the places are parameters
+unfoldable pub small : ℕ → ℕ → Store
+small extents groups =
+    made 4 extents groups (record { cards = card 8 1 12 13 ∷ []; extents = extent 0 3 1 ∷ []; groups = zeroth 3593734301 ∷ [] }) 9
+    (padded 4096 []
+    ++ padded 4096 (1 ∷ 2 ∷ 3 ∷ 4 ∷ 5 ∷ [])
+    ++ padded 4096 (1 ∷ 2 ∷ 9 ∷ 9 ∷ 5 ∷ [])
+    ++ padded 4096 (1 ∷ 2 ∷ 9 ∷ 9 ∷ 5 ∷ 0 ∷ 0 ∷ 0 ∷ []))
 
 -- ---- all of them opened by one name, with every definition of `rules`
 
 unfoldable pub computed : Unit {0}
-unfolding opened zeros uuid written overwritten grown done answer extents cards extent card withHead withMaps withByte withBooks noGroups noExtents withCards second oneGroup
+unfolding opened zeros uuid written overwritten grown done answer extents cards extent card withHead mapped imageByte cardByte extentByte groupByte booked withCards withFiles withGroups second zeroth made small
 computed = tt

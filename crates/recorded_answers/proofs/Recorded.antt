@@ -4,11 +4,17 @@
 use mathlib.Core.Path.{_≡_, refl}
 use mathlib.Core.List.{List, [], _∷_, _++_}
 use Prim.Native.Nat.{ℕ, zero, suc, _+_, _%_}
+use Rattle.rules.specs.Time.{Time}
 use Rattle.rules.specs.Store.{Store}
 use Rattle.rules.specs.Refusal.{Result}
 use Rattle.rules.specs.Call.{call}
-use Rattle.rules.specs.Call.Call.{fresh, enter, write, grow, read, settle, fill}
+use Rattle.rules.specs.Call.Look.{read, fill}
+use Rattle.rules.specs.Call.Call.{fresh, enter, write, grow, settle, look}
 use Rattle.rules.proofs.Opened.{opened}
+
+-- so many seconds, and nanoseconds
+abbrev pub time : ℕ → ℕ → Time
+time seconds nanoseconds = record { seconds = seconds; nanoseconds = nanoseconds }
 
 -- n bytes from b on, each a step above the one before, modulo 256
 pub ramp : ℕ → ℕ → ℕ → List ℕ
@@ -19,7 +25,7 @@ ramp (suc n) b step = b ∷ ramp n ((b + step) % 256) step
 pub before0 : Store
 before0 = record { image = []; head = ramp 16 1 1 ++ (0 ∷ 10 ∷ 0 ∷ 0 ∷ 128 ∷ 0 ∷ 2 ∷ 0 ∷ 0 ∷ 48 ∷ 0 ∷ 2 ∷ []); cards = ramp 7 0 0 ++ (7 ∷ []) ++ ramp 6 0 0 ++ (70 ∷ 80 ∷ 0 ∷ 0 ∷ 0 ∷ 0 ∷ 192 ∷ []) ++ ramp 6 0 0 ++ (2 ∷ 128 ∷ 0 ∷ 0 ∷ 12 ∷ []) ++ ramp 7 0 0 ++ (9 ∷ []) ++ ramp 6 0 0 ++ (156 ∷ 64 ∷ 0 ∷ 0 ∷ 0 ∷ 1 ∷ 64 ∷ []) ++ ramp 6 0 0 ++ (2 ∷ 128 ∷ 0 ∷ 0 ∷ 12 ∷ []) ++ ramp 64 0 0; extents = ramp 7 0 0 ++ (7 ∷ 3 ∷ []) ++ ramp 8 0 0 ++ (2 ∷ []) ++ ramp 7 0 0 ++ (1 ∷ []) ++ ramp 14 0 0 ++ (7 ∷ 3 ∷ []) ++ ramp 7 0 0 ++ (1 ∷ 10 ∷ []) ++ ramp 7 0 0 ++ (2 ∷ []) ++ ramp 14 0 0 ++ (9 ∷ 3 ∷ []) ++ ramp 8 0 0 ++ (5 ∷ []) ++ ramp 7 0 0 ++ (5 ∷ []) ++ ramp 172 0 0; groups = ramp 7 0 0 ++ (7 ∷ 4 ∷ []) ++ ramp 8 0 0 ++ (1 ∷ []) ++ ramp 31 0 0 ++ (124 ∷ 37 ∷ 94 ∷ 195 ∷ []) ++ ramp 1027 0 0 ++ (9 ∷ 4 ∷ []) ++ ramp 8 0 0 ++ (1 ∷ []) ++ ramp 31 0 0 ++ (114 ∷ 79 ∷ 234 ∷ 84 ∷ []) ++ ramp 3166 0 0; used = (255 ∷ 15 ∷ []) ++ ramp 6 0 0; retired = (24 ∷ []) ++ ramp 7 0 0 }
 
-pub entry0 : call (fill) before0 ≡ record { number = 1; count = 0; store = before0; out = [] }
+pub entry0 : call (look (fill)) before0 ≡ record { number = 1; count = 0; store = before0; out = [] }
 unfolding opened ramp before0
 entry0 = refl
 
@@ -35,7 +41,7 @@ entry1 = refl
 pub before63 : Store
 before63 = record { image = ramp 4096 0 0; head = ramp 18 0 0 ++ (128 ∷ []) ++ ramp 9 0 0; cards = ramp 32 0 0; extents = ramp 33 0 0; groups = ramp 1073 0 0; used = ramp 8 0 0; retired = ramp 8 0 0 }
 
-pub entry63 : call (write 0 0 ([]) 0 0) before63 ≡ record { number = 3; count = 0; store = before63; out = [] }
+pub entry63 : call (write 0 0 ([]) (time 0 0)) before63 ≡ record { number = 3; count = 0; store = before63; out = [] }
 unfolding opened ramp before63
 entry63 = refl
 
@@ -43,7 +49,7 @@ entry63 = refl
 pub before64 : Store
 before64 = record { image = ramp 4096 0 0; head = ramp 18 0 0 ++ (128 ∷ []) ++ ramp 9 0 0; cards = ramp 32 0 0; extents = ramp 33 0 0; groups = ramp 1073 0 0; used = ramp 8 0 0; retired = ramp 8 0 0 }
 
-pub entry64 : call (write 0 9223372036854775807 ((1 ∷ [])) 0 0) before64 ≡ record { number = 3; count = 0; store = before64; out = [] }
+pub entry64 : call (write 0 9223372036854775807 ((1 ∷ [])) (time 0 0)) before64 ≡ record { number = 3; count = 0; store = before64; out = [] }
 unfolding opened ramp before64
 entry64 = refl
 
@@ -51,7 +57,7 @@ entry64 = refl
 pub before65 : Store
 before65 = record { image = ramp 4096 0 0; head = ramp 18 0 0 ++ (128 ∷ []) ++ ramp 9 0 0; cards = ramp 32 0 0; extents = ramp 33 0 0; groups = ramp 1073 0 0; used = ramp 8 0 0; retired = ramp 8 0 0 }
 
-pub entry65 : call (grow 0 9223372036854775808 0 0) before65 ≡ record { number = 3; count = 0; store = before65; out = [] }
+pub entry65 : call (grow 0 9223372036854775808 (time 0 0)) before65 ≡ record { number = 3; count = 0; store = before65; out = [] }
 unfolding opened ramp before65
 entry65 = refl
 
@@ -59,7 +65,7 @@ entry65 = refl
 pub before66 : Store
 before66 = record { image = ramp 4096 0 0; head = ramp 18 0 0 ++ (128 ∷ []) ++ ramp 9 0 0; cards = ramp 32 0 0; extents = ramp 33 0 0; groups = ramp 1073 0 0; used = ramp 8 0 0; retired = ramp 8 0 0 }
 
-pub entry66 : call (write 0 0 ((1 ∷ [])) 9223372036854775808 0) before66 ≡ record { number = 3; count = 0; store = before66; out = [] }
+pub entry66 : call (write 0 0 ((1 ∷ [])) (time 9223372036854775808 0)) before66 ≡ record { number = 3; count = 0; store = before66; out = [] }
 unfolding opened ramp before66
 entry66 = refl
 
@@ -67,7 +73,7 @@ entry66 = refl
 pub before67 : Store
 before67 = record { image = ramp 4096 0 0; head = ramp 18 0 0 ++ (128 ∷ 0 ∷ 0 ∷ 0 ∷ 1 ∷ 0 ∷ 0 ∷ 0 ∷ 0 ∷ 0 ∷ []); cards = ramp 15 0 0 ++ (2 ∷ []) ++ ramp 16 0 0; extents = ramp 33 0 0; groups = ramp 1073 0 0; used = ramp 8 0 0; retired = ramp 8 0 0 }
 
-pub entry67 : call (grow 0 0 0 0) before67 ≡ record { number = 6; count = 0; store = before67; out = [] }
+pub entry67 : call (grow 0 0 (time 0 0)) before67 ≡ record { number = 6; count = 0; store = before67; out = [] }
 unfolding opened ramp before67
 entry67 = refl
 
@@ -75,7 +81,7 @@ entry67 = refl
 pub before68 : Store
 before68 = record { image = ramp 4096 0 0; head = ramp 18 0 0 ++ (128 ∷ 0 ∷ 0 ∷ 0 ∷ 1 ∷ 0 ∷ 0 ∷ 0 ∷ 0 ∷ 0 ∷ []); cards = ramp 15 0 0 ++ (1 ∷ 255 ∷ 255 ∷ 255 ∷ 255 ∷ 192 ∷ []) ++ ramp 11 0 0; extents = ramp 33 0 0; groups = ramp 1073 0 0; used = ramp 8 0 0; retired = ramp 8 0 0 }
 
-pub entry68 : call (write 0 0 ((1 ∷ [])) 0 0) before68 ≡ record { number = 14; count = 0; store = before68; out = [] }
+pub entry68 : call (write 0 0 ((1 ∷ [])) (time 0 0)) before68 ≡ record { number = 14; count = 0; store = before68; out = [] }
 unfolding opened ramp before68
 entry68 = refl
 
@@ -97,7 +103,7 @@ before289 = record { image = ramp 16384 0 0; head = (57 ∷ 128 ∷ 205 ∷ 228 
 pub after289 : Store
 after289 = record { image = ramp 16384 0 0; head = (57 ∷ 128 ∷ 205 ∷ 228 ∷ 135 ∷ 178 ∷ 162 ∷ 58 ∷ 26 ∷ 12 ∷ 137 ∷ 161 ∷ 209 ∷ 160 ∷ 182 ∷ 171 ∷ 0 ∷ 2 ∷ 0 ∷ 0 ∷ 0 ∷ 0 ∷ 1 ∷ 0 ∷ 0 ∷ 0 ∷ 0 ∷ 0 ∷ []); cards = ramp 7 0 0 ++ (255 ∷ []) ++ ramp 16 0 0 ++ (91 ∷ 234 ∷ 124 ∷ 116 ∷ 186 ∷ 247 ∷ 21 ∷ 68 ∷ []) ++ ramp 64 0 0; extents = ramp 1947 0 0; groups = ramp 3219 0 0; used = ramp 8 0 0; retired = ramp 8 0 0 }
 
-pub entry289 : call (enter 255 3084187881 494635682) before289 ≡ record { number = 0; count = 0; store = after289; out = [] }
+pub entry289 : call (enter 255 (time 3084187881 494635682)) before289 ≡ record { number = 0; count = 0; store = after289; out = [] }
 unfolding opened ramp before289 after289
 entry289 = refl
 
@@ -108,7 +114,7 @@ before290 = record { image = ramp 16384 0 0; head = (57 ∷ 128 ∷ 205 ∷ 228 
 pub after290 : Store
 after290 = record { image = ramp 16384 0 0; head = (57 ∷ 128 ∷ 205 ∷ 228 ∷ 135 ∷ 178 ∷ 162 ∷ 58 ∷ 26 ∷ 12 ∷ 137 ∷ 161 ∷ 209 ∷ 160 ∷ 182 ∷ 171 ∷ 0 ∷ 2 ∷ 0 ∷ 0 ∷ 0 ∷ 0 ∷ 2 ∷ 0 ∷ 0 ∷ 0 ∷ 0 ∷ 0 ∷ []); cards = ramp 7 0 0 ++ (1 ∷ []) ++ ramp 16 0 0 ++ (97 ∷ 177 ∷ 215 ∷ 0 ∷ 211 ∷ 241 ∷ 38 ∷ 152 ∷ []) ++ ramp 7 0 0 ++ (255 ∷ []) ++ ramp 16 0 0 ++ (91 ∷ 234 ∷ 124 ∷ 116 ∷ 186 ∷ 247 ∷ 21 ∷ 68 ∷ []) ++ ramp 32 0 0; extents = ramp 1947 0 0; groups = ramp 3219 0 0; used = ramp 8 0 0; retired = ramp 8 0 0 }
 
-pub entry290 : call (enter 1 3278089729 704156492) before290 ≡ record { number = 0; count = 0; store = after290; out = [] }
+pub entry290 : call (enter 1 (time 3278089729 704156492)) before290 ≡ record { number = 0; count = 0; store = after290; out = [] }
 unfolding opened ramp before290 after290
 entry290 = refl
 
@@ -116,7 +122,7 @@ entry290 = refl
 pub before291 : Store
 before291 = record { image = ramp 16384 0 0; head = (57 ∷ 128 ∷ 205 ∷ 228 ∷ 135 ∷ 178 ∷ 162 ∷ 58 ∷ 26 ∷ 12 ∷ 137 ∷ 161 ∷ 209 ∷ 160 ∷ 182 ∷ 171 ∷ 0 ∷ 2 ∷ 0 ∷ 0 ∷ 0 ∷ 0 ∷ 2 ∷ 0 ∷ 0 ∷ 0 ∷ 0 ∷ 0 ∷ []); cards = ramp 7 0 0 ++ (1 ∷ []) ++ ramp 16 0 0 ++ (97 ∷ 177 ∷ 215 ∷ 0 ∷ 211 ∷ 241 ∷ 38 ∷ 152 ∷ []) ++ ramp 7 0 0 ++ (255 ∷ []) ++ ramp 16 0 0 ++ (91 ∷ 234 ∷ 124 ∷ 116 ∷ 186 ∷ 247 ∷ 21 ∷ 68 ∷ []) ++ ramp 32 0 0; extents = ramp 1947 0 0; groups = ramp 3219 0 0; used = ramp 8 0 0; retired = ramp 8 0 0 }
 
-pub entry291 : call (write 255 65535 (ramp 1230 0 245 ++ ramp 1996 0 0 ++ ramp 131 114 101) 1912504832 295426023) before291 ≡ record { number = 13; count = 0; store = before291; out = [] }
+pub entry291 : call (write 255 65535 (ramp 1230 0 245 ++ ramp 1996 0 0 ++ ramp 131 114 101) (time 1912504832 295426023)) before291 ≡ record { number = 13; count = 0; store = before291; out = [] }
 unfolding opened ramp before291
 entry291 = refl
 
@@ -124,7 +130,7 @@ entry291 = refl
 pub before292 : Store
 before292 = record { image = ramp 16384 0 0; head = (57 ∷ 128 ∷ 205 ∷ 228 ∷ 135 ∷ 178 ∷ 162 ∷ 58 ∷ 26 ∷ 12 ∷ 137 ∷ 161 ∷ 209 ∷ 160 ∷ 182 ∷ 171 ∷ 0 ∷ 2 ∷ 0 ∷ 0 ∷ 0 ∷ 0 ∷ 2 ∷ 0 ∷ 0 ∷ 0 ∷ 0 ∷ 0 ∷ []); cards = ramp 7 0 0 ++ (1 ∷ []) ++ ramp 16 0 0 ++ (97 ∷ 177 ∷ 215 ∷ 0 ∷ 211 ∷ 241 ∷ 38 ∷ 152 ∷ []) ++ ramp 7 0 0 ++ (255 ∷ []) ++ ramp 16 0 0 ++ (91 ∷ 234 ∷ 124 ∷ 116 ∷ 186 ∷ 247 ∷ 21 ∷ 68 ∷ []) ++ ramp 32 0 0; extents = ramp 1947 0 0; groups = ramp 3219 0 0; used = ramp 8 0 0; retired = ramp 8 0 0 }
 
-pub entry292 : call (read 255 4095 (ramp 5000 165 0)) before292 ≡ record { number = 0; count = 0; store = before292; out = ramp 5000 165 0 }
+pub entry292 : call (look (read 255 4095 (ramp 5000 165 0))) before292 ≡ record { number = 0; count = 0; store = before292; out = ramp 5000 165 0 }
 unfolding opened ramp before292
 entry292 = refl
 
@@ -154,7 +160,7 @@ entry298 = refl
 pub before299 : Store
 before299 = record { image = ramp 5460 22 139 ++ ramp 1898 4 137 ++ ramp 2000 0 0 ++ ramp 4201 118 77 ++ ramp 2825 0 0; head = (57 ∷ 128 ∷ 205 ∷ 228 ∷ 135 ∷ 178 ∷ 162 ∷ 58 ∷ 26 ∷ 12 ∷ 137 ∷ 161 ∷ 209 ∷ 160 ∷ 182 ∷ 171 ∷ 0 ∷ 2 ∷ 0 ∷ 0 ∷ 0 ∷ 0 ∷ 2 ∷ 0 ∷ 0 ∷ 16 ∷ 0 ∷ 1 ∷ []); cards = ramp 7 0 0 ++ (1 ∷ []) ++ ramp 6 0 0 ++ (57 ∷ 124 ∷ 0 ∷ 0 ∷ 0 ∷ 0 ∷ 128 ∷ 0 ∷ 0 ∷ 0 ∷ 20 ∷ 235 ∷ 12 ∷ 17 ∷ 139 ∷ 191 ∷ 180 ∷ 58 ∷ []) ++ ramp 7 0 0 ++ (255 ∷ []) ++ ramp 16 0 0 ++ (91 ∷ 234 ∷ 124 ∷ 116 ∷ 186 ∷ 247 ∷ 21 ∷ 68 ∷ []) ++ ramp 32 0 0; extents = ramp 7 0 0 ++ (1 ∷ 3 ∷ []) ++ ramp 16 0 0 ++ (2 ∷ []) ++ ramp 1921 0 0; groups = ramp 7 0 0 ++ (1 ∷ 4 ∷ []) ++ ramp 8 0 0 ++ (1 ∷ []) ++ ramp 31 0 0 ++ (63 ∷ 236 ∷ 206 ∷ 165 ∷ []) ++ ramp 3166 0 0; used = (3 ∷ []) ++ ramp 7 0 0; retired = ramp 8 0 0 }
 
-pub entry299 : call (read 255 0 ([])) before299 ≡ record { number = 0; count = 0; store = before299; out = [] }
+pub entry299 : call (look (read 255 0 ([]))) before299 ≡ record { number = 0; count = 0; store = before299; out = [] }
 unfolding opened ramp before299
 entry299 = refl
 
@@ -162,7 +168,7 @@ entry299 = refl
 pub before300 : Store
 before300 = record { image = ramp 5460 22 139 ++ ramp 1898 4 137 ++ ramp 2000 0 0 ++ ramp 4201 118 77 ++ ramp 2825 0 0; head = (57 ∷ 128 ∷ 205 ∷ 228 ∷ 135 ∷ 178 ∷ 162 ∷ 58 ∷ 26 ∷ 12 ∷ 137 ∷ 161 ∷ 209 ∷ 160 ∷ 182 ∷ 171 ∷ 0 ∷ 2 ∷ 0 ∷ 0 ∷ 0 ∷ 0 ∷ 2 ∷ 0 ∷ 0 ∷ 16 ∷ 0 ∷ 1 ∷ []); cards = ramp 7 0 0 ++ (1 ∷ []) ++ ramp 6 0 0 ++ (57 ∷ 124 ∷ 0 ∷ 0 ∷ 0 ∷ 0 ∷ 128 ∷ 0 ∷ 0 ∷ 0 ∷ 20 ∷ 235 ∷ 12 ∷ 17 ∷ 139 ∷ 191 ∷ 180 ∷ 58 ∷ []) ++ ramp 7 0 0 ++ (255 ∷ []) ++ ramp 16 0 0 ++ (91 ∷ 234 ∷ 124 ∷ 116 ∷ 186 ∷ 247 ∷ 21 ∷ 68 ∷ []) ++ ramp 32 0 0; extents = ramp 7 0 0 ++ (1 ∷ 3 ∷ []) ++ ramp 16 0 0 ++ (2 ∷ []) ++ ramp 1921 0 0; groups = ramp 7 0 0 ++ (1 ∷ 4 ∷ []) ++ ramp 8 0 0 ++ (1 ∷ []) ++ ramp 31 0 0 ++ (63 ∷ 236 ∷ 206 ∷ 165 ∷ []) ++ ramp 3166 0 0; used = (3 ∷ []) ++ ramp 7 0 0; retired = ramp 8 0 0 }
 
-pub entry300 : call (write 255 12288 (ramp 3382 148 201 ++ ramp 4809 231 225) 3257556446 478963457) before300 ≡ record { number = 13; count = 0; store = before300; out = [] }
+pub entry300 : call (write 255 12288 (ramp 3382 148 201 ++ ramp 4809 231 225) (time 3257556446 478963457)) before300 ≡ record { number = 13; count = 0; store = before300; out = [] }
 unfolding opened ramp before300
 entry300 = refl
 
@@ -170,7 +176,7 @@ entry300 = refl
 pub before302 : Store
 before302 = record { image = ramp 5460 22 139 ++ ramp 1898 4 137 ++ ramp 2000 0 0 ++ ramp 4201 118 77 ++ ramp 2825 0 0; head = (57 ∷ 128 ∷ 205 ∷ 228 ∷ 135 ∷ 178 ∷ 162 ∷ 58 ∷ 26 ∷ 12 ∷ 137 ∷ 161 ∷ 209 ∷ 160 ∷ 182 ∷ 171 ∷ 0 ∷ 2 ∷ 0 ∷ 0 ∷ 0 ∷ 0 ∷ 2 ∷ 0 ∷ 0 ∷ 16 ∷ 0 ∷ 1 ∷ []); cards = ramp 7 0 0 ++ (1 ∷ []) ++ ramp 6 0 0 ++ (57 ∷ 124 ∷ 0 ∷ 0 ∷ 0 ∷ 0 ∷ 128 ∷ 0 ∷ 0 ∷ 0 ∷ 20 ∷ 235 ∷ 12 ∷ 17 ∷ 139 ∷ 191 ∷ 180 ∷ 58 ∷ []) ++ ramp 7 0 0 ++ (255 ∷ []) ++ ramp 16 0 0 ++ (91 ∷ 234 ∷ 124 ∷ 116 ∷ 186 ∷ 247 ∷ 21 ∷ 68 ∷ []) ++ ramp 32 0 0; extents = ramp 7 0 0 ++ (1 ∷ 3 ∷ []) ++ ramp 16 0 0 ++ (2 ∷ []) ++ ramp 1921 0 0; groups = ramp 7 0 0 ++ (1 ∷ 4 ∷ []) ++ ramp 8 0 0 ++ (1 ∷ []) ++ ramp 31 0 0 ++ (63 ∷ 236 ∷ 206 ∷ 165 ∷ []) ++ ramp 3166 0 0; used = (3 ∷ []) ++ ramp 7 0 0; retired = ramp 8 0 0 }
 
-pub entry302 : call (enter 255 9223372036854775808 899087421) before302 ≡ record { number = 4; count = 0; store = before302; out = [] }
+pub entry302 : call (enter 255 (time 9223372036854775808 899087421)) before302 ≡ record { number = 4; count = 0; store = before302; out = [] }
 unfolding opened ramp before302
 entry302 = refl
 
@@ -181,7 +187,7 @@ before303 = record { image = ramp 4094 22 139 ++ (1 ∷ []) ++ ramp 1365 139 139
 pub after303 : Store
 after303 = record { image = ramp 4094 22 139 ++ (1 ∷ []) ++ ramp 1365 139 139 ++ ramp 1898 4 137 ++ ramp 2000 0 0 ++ ramp 4201 118 77 ++ ramp 2825 0 0; head = (57 ∷ 128 ∷ 205 ∷ 228 ∷ 135 ∷ 178 ∷ 162 ∷ 58 ∷ 26 ∷ 12 ∷ 137 ∷ 161 ∷ 209 ∷ 160 ∷ 182 ∷ 171 ∷ 0 ∷ 2 ∷ 0 ∷ 0 ∷ 0 ∷ 0 ∷ 2 ∷ 0 ∷ 0 ∷ 16 ∷ 0 ∷ 1 ∷ []); cards = ramp 7 0 0 ++ (1 ∷ []) ++ ramp 6 0 0 ++ (57 ∷ 125 ∷ 255 ∷ 255 ∷ 255 ∷ 254 ∷ 64 ∷ 0 ∷ 0 ∷ 0 ∷ 20 ∷ 235 ∷ 12 ∷ 17 ∷ 139 ∷ 191 ∷ 180 ∷ 58 ∷ []) ++ ramp 7 0 0 ++ (255 ∷ []) ++ ramp 6 0 0 ++ (32 ∷ 2 ∷ []) ++ ramp 8 0 0 ++ (30 ∷ 207 ∷ 84 ∷ 251 ∷ 205 ∷ 236 ∷ 220 ∷ 90 ∷ []) ++ ramp 32 0 0; extents = ramp 7 0 0 ++ (1 ∷ 3 ∷ []) ++ ramp 16 0 0 ++ (2 ∷ []) ++ ramp 1921 0 0; groups = ramp 7 0 0 ++ (1 ∷ 4 ∷ []) ++ ramp 8 0 0 ++ (1 ∷ []) ++ ramp 31 0 0 ++ (100 ∷ 54 ∷ 151 ∷ 234 ∷ []) ++ ramp 3166 0 0; used = (3 ∷ []) ++ ramp 7 0 0; retired = ramp 8 0 0 }
 
-pub entry303 : call (grow 255 4097 1033808375 653684269) before303 ≡ record { number = 0; count = 0; store = after303; out = [] }
+pub entry303 : call (grow 255 4097 (time 1033808375 653684269)) before303 ≡ record { number = 0; count = 0; store = after303; out = [] }
 unfolding opened ramp before303 after303
 entry303 = refl
 
@@ -189,7 +195,7 @@ entry303 = refl
 pub before307 : Store
 before307 = record { image = ramp 4094 22 139 ++ (1 ∷ []) ++ ramp 1365 139 139 ++ ramp 1898 4 137 ++ ramp 834 0 0 ++ ramp 109 22 139 ++ ramp 3580 110 123 ++ ramp 407 0 0 ++ ramp 1271 192 77 ++ ramp 2825 0 0; head = (57 ∷ 128 ∷ 205 ∷ 228 ∷ 135 ∷ 178 ∷ 162 ∷ 58 ∷ 26 ∷ 12 ∷ 137 ∷ 161 ∷ 209 ∷ 160 ∷ 182 ∷ 171 ∷ 0 ∷ 2 ∷ 0 ∷ 0 ∷ 0 ∷ 0 ∷ 2 ∷ 0 ∷ 0 ∷ 16 ∷ 0 ∷ 2 ∷ []); cards = ramp 7 0 0 ++ (1 ∷ []) ++ ramp 6 0 0 ++ (60 ∷ 211 ∷ 255 ∷ 255 ∷ 255 ∷ 254 ∷ 64 ∷ 0 ∷ 0 ∷ 0 ∷ 15 ∷ 161 ∷ 4 ∷ 41 ∷ 70 ∷ 243 ∷ 131 ∷ 92 ∷ []) ++ ramp 7 0 0 ++ (255 ∷ []) ++ ramp 6 0 0 ++ (32 ∷ 2 ∷ []) ++ ramp 8 0 0 ++ (30 ∷ 207 ∷ 84 ∷ 251 ∷ 205 ∷ 236 ∷ 220 ∷ 90 ∷ []) ++ ramp 32 0 0; extents = ramp 7 0 0 ++ (1 ∷ 3 ∷ []) ++ ramp 16 0 0 ++ (1 ∷ []) ++ ramp 1921 0 0; groups = ramp 7 0 0 ++ (1 ∷ 4 ∷ []) ++ ramp 8 0 0 ++ (1 ∷ []) ++ ramp 31 0 0 ++ (54 ∷ 241 ∷ 49 ∷ 109 ∷ []) ++ ramp 1027 0 0 ++ (255 ∷ 4 ∷ []) ++ ramp 8 0 0 ++ (1 ∷ []) ++ ramp 31 0 0 ++ (128 ∷ 122 ∷ 163 ∷ 227 ∷ []) ++ ramp 2093 0 0; used = (5 ∷ []) ++ ramp 7 0 0; retired = ramp 8 0 0 }
 
-pub entry307 : call (grow 255 8192 1134938135 583490460) before307 ≡ record { number = 10; count = 0; store = before307; out = [] }
+pub entry307 : call (grow 255 8192 (time 1134938135 583490460)) before307 ≡ record { number = 10; count = 0; store = before307; out = [] }
 unfolding opened ramp before307
 entry307 = refl
 
@@ -197,7 +203,7 @@ entry307 = refl
 pub before308 : Store
 before308 = record { image = ramp 4094 22 139 ++ (1 ∷ []) ++ ramp 1365 139 139 ++ ramp 1898 4 137 ++ ramp 834 0 0 ++ ramp 109 22 139 ++ ramp 3580 110 123 ++ ramp 407 0 0 ++ ramp 1271 192 77 ++ ramp 2825 0 0; head = (57 ∷ 128 ∷ 205 ∷ 228 ∷ 135 ∷ 178 ∷ 162 ∷ 58 ∷ 26 ∷ 12 ∷ 137 ∷ 161 ∷ 209 ∷ 160 ∷ 182 ∷ 171 ∷ 0 ∷ 2 ∷ 0 ∷ 0 ∷ 0 ∷ 0 ∷ 2 ∷ 0 ∷ 0 ∷ 16 ∷ 0 ∷ 2 ∷ []); cards = ramp 7 0 0 ++ (1 ∷ []) ++ ramp 6 0 0 ++ (60 ∷ 211 ∷ 255 ∷ 255 ∷ 255 ∷ 254 ∷ 64 ∷ 0 ∷ 0 ∷ 0 ∷ 15 ∷ 161 ∷ 4 ∷ 41 ∷ 70 ∷ 243 ∷ 131 ∷ 92 ∷ []) ++ ramp 7 0 0 ++ (255 ∷ []) ++ ramp 6 0 0 ++ (32 ∷ 2 ∷ []) ++ ramp 8 0 0 ++ (30 ∷ 207 ∷ 84 ∷ 251 ∷ 205 ∷ 236 ∷ 220 ∷ 90 ∷ []) ++ ramp 32 0 0; extents = ramp 7 0 0 ++ (1 ∷ 3 ∷ []) ++ ramp 16 0 0 ++ (1 ∷ []) ++ ramp 1921 0 0; groups = ramp 7 0 0 ++ (1 ∷ 4 ∷ []) ++ ramp 8 0 0 ++ (1 ∷ []) ++ ramp 31 0 0 ++ (54 ∷ 241 ∷ 49 ∷ 109 ∷ []) ++ ramp 1027 0 0 ++ (255 ∷ 4 ∷ []) ++ ramp 8 0 0 ++ (1 ∷ []) ++ ramp 31 0 0 ++ (128 ∷ 122 ∷ 163 ∷ 227 ∷ []) ++ ramp 2093 0 0; used = (5 ∷ []) ++ ramp 7 0 0; retired = ramp 8 0 0 }
 
-pub entry308 : call (write 255 1387 (ramp 260 0 0) 2456931269 999999999) before308 ≡ record { number = 10; count = 0; store = before308; out = [] }
+pub entry308 : call (write 255 1387 (ramp 260 0 0) (time 2456931269 999999999)) before308 ≡ record { number = 10; count = 0; store = before308; out = [] }
 unfolding opened ramp before308
 entry308 = refl
 
@@ -205,7 +211,7 @@ entry308 = refl
 pub before309 : Store
 before309 = record { image = ramp 4094 22 139 ++ (1 ∷ []) ++ ramp 1365 139 139 ++ ramp 1898 4 137 ++ ramp 834 0 0 ++ ramp 109 22 139 ++ ramp 3580 110 123 ++ ramp 407 0 0 ++ ramp 1271 192 77 ++ ramp 2825 0 0; head = (57 ∷ 128 ∷ 205 ∷ 228 ∷ 135 ∷ 178 ∷ 162 ∷ 58 ∷ 26 ∷ 12 ∷ 137 ∷ 161 ∷ 209 ∷ 160 ∷ 182 ∷ 171 ∷ 0 ∷ 2 ∷ 0 ∷ 0 ∷ 0 ∷ 0 ∷ 2 ∷ 0 ∷ 0 ∷ 16 ∷ 0 ∷ 2 ∷ []); cards = ramp 7 0 0 ++ (1 ∷ []) ++ ramp 6 0 0 ++ (60 ∷ 211 ∷ 255 ∷ 255 ∷ 255 ∷ 254 ∷ 64 ∷ 0 ∷ 0 ∷ 0 ∷ 15 ∷ 161 ∷ 4 ∷ 41 ∷ 70 ∷ 243 ∷ 131 ∷ 92 ∷ []) ++ ramp 7 0 0 ++ (255 ∷ []) ++ ramp 6 0 0 ++ (32 ∷ 2 ∷ []) ++ ramp 8 0 0 ++ (30 ∷ 207 ∷ 84 ∷ 251 ∷ 205 ∷ 236 ∷ 220 ∷ 90 ∷ []) ++ ramp 32 0 0; extents = ramp 7 0 0 ++ (1 ∷ 3 ∷ []) ++ ramp 16 0 0 ++ (1 ∷ []) ++ ramp 1921 0 0; groups = ramp 7 0 0 ++ (1 ∷ 4 ∷ []) ++ ramp 8 0 0 ++ (1 ∷ []) ++ ramp 31 0 0 ++ (54 ∷ 241 ∷ 49 ∷ 109 ∷ []) ++ ramp 1027 0 0 ++ (255 ∷ 4 ∷ []) ++ ramp 8 0 0 ++ (1 ∷ []) ++ ramp 31 0 0 ++ (128 ∷ 122 ∷ 163 ∷ 227 ∷ []) ++ ramp 2093 0 0; used = (5 ∷ []) ++ ramp 7 0 0; retired = ramp 8 0 0 }
 
-pub entry309 : call (enter 255 9223372036854775807 999999999) before309 ≡ record { number = 4; count = 0; store = before309; out = [] }
+pub entry309 : call (enter 255 (time 9223372036854775807 999999999)) before309 ≡ record { number = 4; count = 0; store = before309; out = [] }
 unfolding opened ramp before309
 entry309 = refl
 
@@ -227,7 +233,7 @@ before364 = record { image = ramp 3232 0 0 ++ ramp 3875 237 0 ++ ramp 1085 0 0 +
 pub after364 : Store
 after364 = record { image = ramp 3232 0 0 ++ ramp 864 237 0 ++ ramp 1452 147 87 ++ ramp 2644 0 0 ++ ramp 1365 237 0 ++ ramp 2625 50 249 ++ ramp 5566 236 21 ++ ramp 2732 0 0; head = (135 ∷ 91 ∷ 66 ∷ 97 ∷ 171 ∷ 229 ∷ 69 ∷ 150 ∷ 33 ∷ 78 ∷ 255 ∷ 74 ∷ 201 ∷ 244 ∷ 203 ∷ 125 ∷ 0 ∷ 2 ∷ 128 ∷ 0 ∷ 0 ∷ 0 ∷ 2 ∷ 0 ∷ 0 ∷ 48 ∷ 0 ∷ 2 ∷ []); cards = ramp 14 0 0 ++ (11 ∷ 88 ∷ 0 ∷ 0 ∷ 0 ∷ 0 ∷ 64 ∷ 0 ∷ 0 ∷ 0 ∷ 108 ∷ 148 ∷ 70 ∷ 195 ∷ 34 ∷ 207 ∷ 22 ∷ 90 ∷ []) ++ ramp 7 0 0 ++ (7 ∷ []) ++ ramp 6 0 0 ++ (106 ∷ 168 ∷ 0 ∷ 0 ∷ 0 ∷ 1 ∷ 63 ∷ []) ++ ramp 7 255 0 ++ (236 ∷ 24 ∷ 177 ∷ 100 ∷ []) ++ ramp 32 0 0; extents = ramp 8 0 0 ++ (3 ∷ []) ++ ramp 8 0 0 ++ (1 ∷ []) ++ ramp 7 0 0 ++ (1 ∷ []) ++ ramp 14 0 0 ++ (7 ∷ 3 ∷ []) ++ ramp 16 0 0 ++ (1 ∷ []) ++ ramp 14 0 0 ++ (7 ∷ 3 ∷ []) ++ ramp 7 0 0 ++ (1 ∷ 2 ∷ []) ++ ramp 7 0 0 ++ (3 ∷ []) ++ ramp 7 0 0; groups = ramp 8 0 0 ++ (4 ∷ []) ++ ramp 8 0 0 ++ (1 ∷ []) ++ ramp 31 0 0 ++ (121 ∷ 224 ∷ 191 ∷ 214 ∷ []) ++ ramp 1027 0 0 ++ (7 ∷ 4 ∷ []) ++ ramp 8 0 0 ++ (1 ∷ []) ++ ramp 31 0 0 ++ (159 ∷ 165 ∷ 12 ∷ 131 ∷ []) ++ ramp 2093 0 0; used = (31 ∷ []) ++ ramp 7 0 0; retired = ramp 8 0 0 }
 
-pub entry364 : call (write 0 0 (ramp 1452 147 87) 3643313542 291998509) before364 ≡ record { number = 0; count = 1452; store = after364; out = [] }
+pub entry364 : call (write 0 0 (ramp 1452 147 87) (time 3643313542 291998509)) before364 ≡ record { number = 0; count = 1452; store = after364; out = [] }
 unfolding opened ramp before364 after364
 entry364 = refl
 
@@ -235,7 +241,7 @@ entry364 = refl
 pub before368 : Store
 before368 = record { image = ramp 3232 0 0 ++ ramp 864 237 0 ++ ramp 1452 147 87 ++ ramp 2644 0 0 ++ ramp 1365 237 0 ++ ramp 2625 50 249 ++ ramp 5566 236 21 ++ ramp 2732 0 0; head = (135 ∷ 91 ∷ 66 ∷ 97 ∷ 171 ∷ 229 ∷ 69 ∷ 150 ∷ 33 ∷ 78 ∷ 255 ∷ 74 ∷ 201 ∷ 244 ∷ 203 ∷ 125 ∷ 0 ∷ 2 ∷ 128 ∷ 0 ∷ 0 ∷ 0 ∷ 2 ∷ 0 ∷ 0 ∷ 48 ∷ 0 ∷ 2 ∷ []); cards = ramp 14 0 0 ++ (11 ∷ 88 ∷ 0 ∷ 0 ∷ 0 ∷ 0 ∷ 64 ∷ 0 ∷ 0 ∷ 0 ∷ 108 ∷ 148 ∷ 70 ∷ 195 ∷ 34 ∷ 207 ∷ 22 ∷ 90 ∷ []) ++ ramp 7 0 0 ++ (7 ∷ []) ++ ramp 6 0 0 ++ (106 ∷ 168 ∷ 0 ∷ 0 ∷ 0 ∷ 1 ∷ 63 ∷ []) ++ ramp 7 255 0 ++ (236 ∷ 24 ∷ 177 ∷ 100 ∷ []) ++ ramp 32 0 0; extents = ramp 8 0 0 ++ (3 ∷ []) ++ ramp 8 0 0 ++ (1 ∷ []) ++ ramp 7 0 0 ++ (1 ∷ []) ++ ramp 14 0 0 ++ (7 ∷ 3 ∷ []) ++ ramp 16 0 0 ++ (1 ∷ []) ++ ramp 14 0 0 ++ (7 ∷ 3 ∷ []) ++ ramp 7 0 0 ++ (1 ∷ 2 ∷ []) ++ ramp 7 0 0 ++ (3 ∷ []) ++ ramp 7 0 0; groups = ramp 8 0 0 ++ (4 ∷ []) ++ ramp 8 0 0 ++ (1 ∷ []) ++ ramp 31 0 0 ++ (121 ∷ 224 ∷ 191 ∷ 214 ∷ []) ++ ramp 1027 0 0 ++ (7 ∷ 4 ∷ []) ++ ramp 8 0 0 ++ (1 ∷ []) ++ ramp 31 0 0 ++ (159 ∷ 165 ∷ 12 ∷ 131 ∷ []) ++ ramp 2093 0 0; used = (31 ∷ []) ++ ramp 7 0 0; retired = ramp 8 0 0 }
 
-pub entry368 : call (fill) before368 ≡ record { number = 0; count = 1000; store = before368; out = [] }
+pub entry368 : call (look (fill)) before368 ≡ record { number = 0; count = 1000; store = before368; out = [] }
 unfolding opened ramp before368
 entry368 = refl
 
@@ -243,7 +249,7 @@ entry368 = refl
 pub before369 : Store
 before369 = record { image = ramp 3232 0 0 ++ ramp 864 237 0 ++ ramp 1452 147 87 ++ ramp 2644 0 0 ++ ramp 1365 237 0 ++ ramp 2625 50 249 ++ ramp 5566 236 21 ++ ramp 2732 0 0; head = (135 ∷ 91 ∷ 66 ∷ 97 ∷ 171 ∷ 229 ∷ 69 ∷ 150 ∷ 33 ∷ 78 ∷ 255 ∷ 74 ∷ 201 ∷ 244 ∷ 203 ∷ 125 ∷ 0 ∷ 2 ∷ 128 ∷ 0 ∷ 0 ∷ 0 ∷ 2 ∷ 0 ∷ 0 ∷ 48 ∷ 0 ∷ 2 ∷ []); cards = ramp 14 0 0 ++ (11 ∷ 88 ∷ 0 ∷ 0 ∷ 0 ∷ 0 ∷ 64 ∷ 0 ∷ 0 ∷ 0 ∷ 108 ∷ 148 ∷ 70 ∷ 195 ∷ 34 ∷ 207 ∷ 22 ∷ 90 ∷ []) ++ ramp 7 0 0 ++ (7 ∷ []) ++ ramp 6 0 0 ++ (106 ∷ 168 ∷ 0 ∷ 0 ∷ 0 ∷ 1 ∷ 63 ∷ []) ++ ramp 7 255 0 ++ (236 ∷ 24 ∷ 177 ∷ 100 ∷ []) ++ ramp 32 0 0; extents = ramp 8 0 0 ++ (3 ∷ []) ++ ramp 8 0 0 ++ (1 ∷ []) ++ ramp 7 0 0 ++ (1 ∷ []) ++ ramp 14 0 0 ++ (7 ∷ 3 ∷ []) ++ ramp 16 0 0 ++ (1 ∷ []) ++ ramp 14 0 0 ++ (7 ∷ 3 ∷ []) ++ ramp 7 0 0 ++ (1 ∷ 2 ∷ []) ++ ramp 7 0 0 ++ (3 ∷ []) ++ ramp 7 0 0; groups = ramp 8 0 0 ++ (4 ∷ []) ++ ramp 8 0 0 ++ (1 ∷ []) ++ ramp 31 0 0 ++ (121 ∷ 224 ∷ 191 ∷ 214 ∷ []) ++ ramp 1027 0 0 ++ (7 ∷ 4 ∷ []) ++ ramp 8 0 0 ++ (1 ∷ []) ++ ramp 31 0 0 ++ (159 ∷ 165 ∷ 12 ∷ 131 ∷ []) ++ ramp 2093 0 0; used = (31 ∷ []) ++ ramp 7 0 0; retired = ramp 8 0 0 }
 
-pub entry369 : call (fill) before369 ≡ record { number = 0; count = 1000; store = before369; out = [] }
+pub entry369 : call (look (fill)) before369 ≡ record { number = 0; count = 1000; store = before369; out = [] }
 unfolding opened ramp before369
 entry369 = refl
 
@@ -254,7 +260,7 @@ before521 = record { image = ramp 4096 0 0; head = (4 ∷ 70 ∷ 102 ∷ 148 ∷
 pub after521 : Store
 after521 = record { image = ramp 886 157 127 ++ ramp 3210 0 0; head = (4 ∷ 70 ∷ 102 ∷ 148 ∷ 65 ∷ 248 ∷ 192 ∷ 237 ∷ 224 ∷ 61 ∷ 101 ∷ 221 ∷ 60 ∷ 8 ∷ 145 ∷ 37 ∷ 0 ∷ 0 ∷ 128 ∷ 0 ∷ 0 ∷ 0 ∷ 2 ∷ 0 ∷ 0 ∷ 16 ∷ 0 ∷ 1 ∷ []); cards = ramp 7 0 0 ++ (1 ∷ []) ++ ramp 6 0 0 ++ (6 ∷ 236 ∷ 0 ∷ 0 ∷ 0 ∷ 0 ∷ 64 ∷ 0 ∷ 0 ∷ 0 ∷ 101 ∷ 135 ∷ 236 ∷ 146 ∷ 21 ∷ 140 ∷ 124 ∷ 228 ∷ []) ++ ramp 8 255 0 ++ ramp 16 0 0 ++ (96 ∷ 229 ∷ 200 ∷ 238 ∷ 65 ∷ 89 ∷ 152 ∷ 32 ∷ []) ++ ramp 64 0 0; extents = ramp 7 0 0 ++ (1 ∷ 3 ∷ []) ++ ramp 16 0 0 ++ (1 ∷ []) ++ ramp 1393 0 0; groups = ramp 7 0 0 ++ (1 ∷ 4 ∷ []) ++ ramp 8 0 0 ++ (1 ∷ []) ++ ramp 31 0 0 ++ (21 ∷ 13 ∷ 219 ∷ 8 ∷ []) ++ ramp 3166 0 0; used = (1 ∷ []) ++ ramp 7 0 0; retired = ramp 8 0 0 }
 
-pub entry521 : call (write 1 0 (ramp 886 157 127) 3406813476 180764274) before521 ≡ record { number = 0; count = 886; store = after521; out = [] }
+pub entry521 : call (write 1 0 (ramp 886 157 127) (time 3406813476 180764274)) before521 ≡ record { number = 0; count = 886; store = after521; out = [] }
 unfolding opened ramp before521 after521
 entry521 = refl
 
@@ -262,7 +268,7 @@ entry521 = refl
 pub before525 : Store
 before525 = record { image = ramp 886 157 127 ++ ramp 3210 0 0; head = (4 ∷ 70 ∷ 102 ∷ 148 ∷ 65 ∷ 248 ∷ 192 ∷ 237 ∷ 224 ∷ 61 ∷ 101 ∷ 221 ∷ 60 ∷ 8 ∷ 145 ∷ 37 ∷ 0 ∷ 0 ∷ 128 ∷ 0 ∷ 0 ∷ 0 ∷ 2 ∷ 0 ∷ 0 ∷ 16 ∷ 0 ∷ 1 ∷ []); cards = ramp 7 0 0 ++ (1 ∷ []) ++ ramp 6 0 0 ++ (6 ∷ 236 ∷ 0 ∷ 0 ∷ 0 ∷ 0 ∷ 64 ∷ 0 ∷ 0 ∷ 0 ∷ 101 ∷ 135 ∷ 236 ∷ 146 ∷ 21 ∷ 140 ∷ 124 ∷ 228 ∷ []) ++ ramp 8 255 0 ++ ramp 16 0 0 ++ (96 ∷ 229 ∷ 200 ∷ 238 ∷ 65 ∷ 89 ∷ 152 ∷ 32 ∷ []) ++ ramp 64 0 0; extents = ramp 7 0 0 ++ (1 ∷ 3 ∷ []) ++ ramp 16 0 0 ++ (1 ∷ []) ++ ramp 1393 0 0; groups = ramp 7 0 0 ++ (1 ∷ 4 ∷ []) ++ ramp 8 0 0 ++ (1 ∷ []) ++ ramp 31 0 0 ++ (21 ∷ 13 ∷ 219 ∷ 8 ∷ []) ++ ramp 3166 0 0; used = (1 ∷ []) ++ ramp 7 0 0; retired = ramp 8 0 0 }
 
-pub entry525 : call (grow 1 4095 3270157580 339050070) before525 ≡ record { number = 13; count = 0; store = before525; out = [] }
+pub entry525 : call (grow 1 4095 (time 3270157580 339050070)) before525 ≡ record { number = 13; count = 0; store = before525; out = [] }
 unfolding opened ramp before525
 entry525 = refl
 
@@ -270,7 +276,7 @@ entry525 = refl
 pub before529 : Store
 before529 = record { image = ramp 886 157 127 ++ ramp 3209 0 0 ++ (128 ∷ []); head = (4 ∷ 70 ∷ 102 ∷ 148 ∷ 65 ∷ 248 ∷ 192 ∷ 237 ∷ 224 ∷ 61 ∷ 101 ∷ 221 ∷ 60 ∷ 8 ∷ 145 ∷ 37 ∷ 0 ∷ 0 ∷ 128 ∷ 0 ∷ 0 ∷ 0 ∷ 2 ∷ 0 ∷ 0 ∷ 16 ∷ 0 ∷ 1 ∷ []); cards = ramp 7 0 0 ++ (1 ∷ []) ++ ramp 6 0 0 ++ (6 ∷ 236 ∷ 0 ∷ 0 ∷ 0 ∷ 0 ∷ 64 ∷ 0 ∷ 0 ∷ 0 ∷ 101 ∷ 135 ∷ 236 ∷ 146 ∷ 21 ∷ 140 ∷ 124 ∷ 228 ∷ []) ++ ramp 8 255 0 ++ ramp 16 0 0 ++ (96 ∷ 229 ∷ 200 ∷ 238 ∷ 65 ∷ 89 ∷ 152 ∷ 32 ∷ []) ++ ramp 64 0 0; extents = ramp 7 0 0 ++ (1 ∷ 3 ∷ []) ++ ramp 16 0 0 ++ (1 ∷ []) ++ ramp 1393 0 0; groups = ramp 7 0 0 ++ (1 ∷ 4 ∷ []) ++ ramp 8 0 0 ++ (1 ∷ []) ++ ramp 31 0 0 ++ (21 ∷ 13 ∷ 219 ∷ 8 ∷ []) ++ ramp 3166 0 0; used = (1 ∷ []) ++ ramp 7 0 0; retired = ramp 8 0 0 }
 
-pub entry529 : call (write 1 10 ((163 ∷ [])) 966236835 624875280) before529 ≡ record { number = 11; count = 0; store = before529; out = [] }
+pub entry529 : call (write 1 10 ((163 ∷ [])) (time 966236835 624875280)) before529 ≡ record { number = 11; count = 0; store = before529; out = [] }
 unfolding opened ramp before529
 entry529 = refl
 
@@ -278,7 +284,7 @@ entry529 = refl
 pub before595 : Store
 before595 = record { image = ramp 20480 0 0; head = (235 ∷ 191 ∷ 198 ∷ 215 ∷ 4 ∷ 237 ∷ 217 ∷ 10 ∷ 143 ∷ 219 ∷ 223 ∷ 248 ∷ 205 ∷ 39 ∷ 159 ∷ 65 ∷ 0 ∷ 2 ∷ 128 ∷ 0 ∷ 0 ∷ 0 ∷ 1 ∷ 0 ∷ 0 ∷ 0 ∷ 0 ∷ 0 ∷ []); cards = ramp 7 0 0 ++ (1 ∷ []) ++ ramp 16 0 0 ++ (115 ∷ 247 ∷ 112 ∷ 238 ∷ 247 ∷ 53 ∷ 147 ∷ 254 ∷ []); extents = ramp 1353 0 0; groups = ramp 3219 0 0; used = ramp 8 0 0; retired = ramp 8 0 0 }
 
-pub entry595 : call (enter 18446744073709551614 651479961 773422622) before595 ≡ record { number = 8; count = 0; store = before595; out = [] }
+pub entry595 : call (enter 18446744073709551614 (time 651479961 773422622)) before595 ≡ record { number = 8; count = 0; store = before595; out = [] }
 unfolding opened ramp before595
 entry595 = refl
 
@@ -286,7 +292,7 @@ entry595 = refl
 pub before1253 : Store
 before1253 = record { image = ramp 24576 0 0; head = (232 ∷ 247 ∷ 99 ∷ 130 ∷ 91 ∷ 20 ∷ 147 ∷ 189 ∷ 185 ∷ 135 ∷ 227 ∷ 218 ∷ 174 ∷ 144 ∷ 7 ∷ 93 ∷ 0 ∷ 3 ∷ 0 ∷ 0 ∷ 0 ∷ 0 ∷ 2 ∷ 0 ∷ 0 ∷ 0 ∷ 0 ∷ 0 ∷ []); cards = ramp 7 0 0 ++ (7 ∷ []) ++ ramp 16 0 0 ++ (69 ∷ 93 ∷ 215 ∷ 0 ∷ 247 ∷ 53 ∷ 147 ∷ 254 ∷ []) ++ ramp 7 0 0 ++ (8 ∷ []) ++ ramp 16 0 0 ++ (118 ∷ 243 ∷ 106 ∷ 83 ∷ 228 ∷ 9 ∷ 91 ∷ 98 ∷ []); extents = ramp 2409 0 0; groups = []; used = ramp 8 0 0; retired = ramp 8 0 0 }
 
-pub entry1253 : call (write 8 0 ((65 ∷ [])) 3511842474 999999999) before1253 ≡ record { number = 15; count = 0; store = before1253; out = [] }
+pub entry1253 : call (write 8 0 ((65 ∷ [])) (time 3511842474 999999999)) before1253 ≡ record { number = 15; count = 0; store = before1253; out = [] }
 unfolding opened ramp before1253
 entry1253 = refl
 
@@ -294,7 +300,7 @@ entry1253 = refl
 pub before1257 : Store
 before1257 = record { image = ramp 24576 0 0; head = (232 ∷ 247 ∷ 99 ∷ 130 ∷ 91 ∷ 20 ∷ 147 ∷ 189 ∷ 185 ∷ 135 ∷ 227 ∷ 218 ∷ 174 ∷ 144 ∷ 7 ∷ 93 ∷ 0 ∷ 3 ∷ 0 ∷ 0 ∷ 0 ∷ 0 ∷ 2 ∷ 0 ∷ 0 ∷ 0 ∷ 0 ∷ 0 ∷ []); cards = ramp 7 0 0 ++ (7 ∷ []) ++ ramp 16 0 0 ++ (69 ∷ 93 ∷ 215 ∷ 0 ∷ 247 ∷ 53 ∷ 147 ∷ 254 ∷ []) ++ ramp 7 0 0 ++ (8 ∷ []) ++ ramp 16 0 0 ++ (118 ∷ 243 ∷ 106 ∷ 83 ∷ 228 ∷ 9 ∷ 91 ∷ 98 ∷ []); extents = ramp 2409 0 0; groups = []; used = ramp 8 0 0; retired = ramp 8 0 0 }
 
-pub entry1257 : call (write 7 0 (ramp 5890 64 217 ++ ramp 6398 174 63) 3144725694 720545168) before1257 ≡ record { number = 15; count = 0; store = before1257; out = [] }
+pub entry1257 : call (write 7 0 (ramp 5890 64 217 ++ ramp 6398 174 63) (time 3144725694 720545168)) before1257 ≡ record { number = 15; count = 0; store = before1257; out = [] }
 unfolding opened ramp before1257
 entry1257 = refl
 
@@ -302,7 +308,7 @@ entry1257 = refl
 pub before1258 : Store
 before1258 = record { image = ramp 24576 0 0; head = (232 ∷ 247 ∷ 99 ∷ 130 ∷ 91 ∷ 20 ∷ 147 ∷ 189 ∷ 185 ∷ 135 ∷ 227 ∷ 218 ∷ 174 ∷ 144 ∷ 7 ∷ 93 ∷ 0 ∷ 3 ∷ 0 ∷ 0 ∷ 0 ∷ 0 ∷ 2 ∷ 0 ∷ 0 ∷ 0 ∷ 0 ∷ 0 ∷ []); cards = ramp 7 0 0 ++ (7 ∷ []) ++ ramp 16 0 0 ++ (69 ∷ 93 ∷ 215 ∷ 0 ∷ 247 ∷ 53 ∷ 147 ∷ 254 ∷ []) ++ ramp 7 0 0 ++ (8 ∷ []) ++ ramp 16 0 0 ++ (118 ∷ 243 ∷ 106 ∷ 83 ∷ 228 ∷ 9 ∷ 91 ∷ 98 ∷ []); extents = ramp 2409 0 0; groups = []; used = ramp 8 0 0; retired = ramp 8 0 0 }
 
-pub entry1258 : call (write 7 0 (ramp 1149 219 1 ++ ramp 1231 19 61) 2661907904 1000000000) before1258 ≡ record { number = 7; count = 0; store = before1258; out = [] }
+pub entry1258 : call (write 7 0 (ramp 1149 219 1 ++ ramp 1231 19 61) (time 2661907904 1000000000)) before1258 ≡ record { number = 7; count = 0; store = before1258; out = [] }
 unfolding opened ramp before1258
 entry1258 = refl
 
@@ -310,7 +316,7 @@ entry1258 = refl
 pub before1264 : Store
 before1264 = record { image = ramp 24576 0 0; head = (232 ∷ 247 ∷ 99 ∷ 130 ∷ 91 ∷ 20 ∷ 147 ∷ 189 ∷ 185 ∷ 135 ∷ 227 ∷ 218 ∷ 174 ∷ 144 ∷ 7 ∷ 93 ∷ 0 ∷ 3 ∷ 0 ∷ 0 ∷ 0 ∷ 0 ∷ 2 ∷ 0 ∷ 0 ∷ 0 ∷ 0 ∷ 0 ∷ []); cards = ramp 7 0 0 ++ (7 ∷ []) ++ ramp 16 0 0 ++ (69 ∷ 93 ∷ 215 ∷ 0 ∷ 247 ∷ 53 ∷ 147 ∷ 254 ∷ []) ++ ramp 7 0 0 ++ (8 ∷ []) ++ ramp 16 0 0 ++ (118 ∷ 243 ∷ 106 ∷ 83 ∷ 228 ∷ 9 ∷ 91 ∷ 98 ∷ []); extents = ramp 2409 0 0; groups = []; used = ramp 8 0 0; retired = ramp 8 0 0 }
 
-pub entry1264 : call (enter 1 2261264976 325314496) before1264 ≡ record { number = 8; count = 0; store = before1264; out = [] }
+pub entry1264 : call (enter 1 (time 2261264976 325314496)) before1264 ≡ record { number = 8; count = 0; store = before1264; out = [] }
 unfolding opened ramp before1264
 entry1264 = refl
 
@@ -321,7 +327,7 @@ before1267 = record { image = ramp 24576 0 0; head = (232 ∷ 247 ∷ 99 ∷ 130
 pub after1267 : Store
 after1267 = record { image = ramp 24576 0 0; head = (232 ∷ 247 ∷ 99 ∷ 130 ∷ 91 ∷ 20 ∷ 147 ∷ 189 ∷ 185 ∷ 135 ∷ 227 ∷ 218 ∷ 174 ∷ 144 ∷ 7 ∷ 93 ∷ 0 ∷ 3 ∷ 0 ∷ 0 ∷ 0 ∷ 0 ∷ 2 ∷ 0 ∷ 0 ∷ 0 ∷ 0 ∷ 0 ∷ []); cards = ramp 7 0 0 ++ (7 ∷ []) ++ ramp 7 0 0 ++ (20 ∷ []) ++ ramp 8 0 0 ++ (115 ∷ 226 ∷ 253 ∷ 136 ∷ 247 ∷ 53 ∷ 147 ∷ 254 ∷ []) ++ ramp 7 0 0 ++ (8 ∷ []) ++ ramp 16 0 0 ++ (118 ∷ 243 ∷ 106 ∷ 83 ∷ 228 ∷ 9 ∷ 91 ∷ 98 ∷ []); extents = ramp 2409 0 0; groups = []; used = ramp 8 0 0; retired = ramp 8 0 0 }
 
-pub entry1267 : call (grow 7 10 3888511761 999999999) before1267 ≡ record { number = 0; count = 0; store = after1267; out = [] }
+pub entry1267 : call (grow 7 10 (time 3888511761 999999999)) before1267 ≡ record { number = 0; count = 0; store = after1267; out = [] }
 unfolding opened ramp before1267 after1267
 entry1267 = refl
 
@@ -329,7 +335,7 @@ entry1267 = refl
 pub before2521 : Store
 before2521 = record { image = ramp 4096 0 0 ++ (22 ∷ []) ++ ramp 4095 0 0 ++ ramp 10 185 129 ++ ramp 1531 220 241 ++ ramp 3390 45 255 ++ ramp 15549 0 0; head = ramp 16 3 0 ++ (0 ∷ 3 ∷ 128 ∷ 0 ∷ 192 ∷ []) ++ ramp 7 0 0; cards = ramp 64 0 0; extents = ramp 1452 0 0; groups = ramp 4292 0 0; used = (7 ∷ []) ++ ramp 7 0 0; retired = ramp 8 0 0 }
 
-pub entry2521 : call (write 255 0 (ramp 1097 185 119 ++ ramp 798 233 87 ++ ramp 2173 224 49) 3721915811 317416353) before2521 ≡ record { number = 3; count = 0; store = before2521; out = [] }
+pub entry2521 : call (write 255 0 (ramp 1097 185 119 ++ ramp 798 233 87 ++ ramp 2173 224 49) (time 3721915811 317416353)) before2521 ≡ record { number = 3; count = 0; store = before2521; out = [] }
 unfolding opened ramp before2521
 entry2521 = refl
 
@@ -337,7 +343,7 @@ entry2521 = refl
 pub before2522 : Store
 before2522 = record { image = ramp 4096 0 0 ++ (22 ∷ []) ++ ramp 4095 0 0 ++ ramp 10 185 129 ++ ramp 1531 220 241 ++ ramp 3390 45 255 ++ ramp 15549 0 0; head = ramp 16 3 0 ++ (0 ∷ 3 ∷ 128 ∷ 0 ∷ 192 ∷ []) ++ ramp 7 0 0; cards = ramp 64 0 0; extents = ramp 1452 0 0; groups = ramp 4292 0 0; used = (7 ∷ []) ++ ramp 7 0 0; retired = ramp 8 0 0 }
 
-pub entry2522 : call (read 8 0 (ramp 262144 165 0)) before2522 ≡ record { number = 3; count = 0; store = before2522; out = ramp 262144 165 0 }
+pub entry2522 : call (look (read 8 0 (ramp 262144 165 0))) before2522 ≡ record { number = 3; count = 0; store = before2522; out = ramp 262144 165 0 }
 unfolding opened ramp before2522
 entry2522 = refl
 
@@ -345,7 +351,7 @@ entry2522 = refl
 pub before2523 : Store
 before2523 = record { image = ramp 4096 0 0 ++ (22 ∷ []) ++ ramp 4095 0 0 ++ ramp 10 185 129 ++ ramp 1531 220 241 ++ ramp 3390 45 255 ++ ramp 15549 0 0; head = ramp 16 3 0 ++ (0 ∷ 3 ∷ 128 ∷ 0 ∷ 192 ∷ []) ++ ramp 7 0 0; cards = ramp 64 0 0; extents = ramp 1452 0 0; groups = ramp 4292 0 0; used = (7 ∷ []) ++ ramp 7 0 0; retired = ramp 8 0 0 }
 
-pub entry2523 : call (write 8 0 (ramp 4096 210 61) 3305561407 128949286) before2523 ≡ record { number = 3; count = 0; store = before2523; out = [] }
+pub entry2523 : call (write 8 0 (ramp 4096 210 61) (time 3305561407 128949286)) before2523 ≡ record { number = 3; count = 0; store = before2523; out = [] }
 unfolding opened ramp before2523
 entry2523 = refl
 
@@ -353,6 +359,6 @@ entry2523 = refl
 pub before2524 : Store
 before2524 = record { image = ramp 4096 0 0 ++ (22 ∷ []) ++ ramp 4095 0 0 ++ ramp 10 185 129 ++ ramp 1531 220 241 ++ ramp 3390 45 255 ++ ramp 15549 0 0; head = ramp 16 3 0 ++ (0 ∷ 3 ∷ 128 ∷ 0 ∷ 192 ∷ []) ++ ramp 7 0 0; cards = ramp 64 0 0; extents = ramp 1452 0 0; groups = ramp 4292 0 0; used = (7 ∷ []) ++ ramp 7 0 0; retired = ramp 8 0 0 }
 
-pub entry2524 : call (read 0 0 (ramp 655360 165 0)) before2524 ≡ record { number = 3; count = 0; store = before2524; out = ramp 655360 165 0 }
+pub entry2524 : call (look (read 0 0 (ramp 655360 165 0))) before2524 ≡ record { number = 3; count = 0; store = before2524; out = ramp 655360 165 0 }
 unfolding opened ramp before2524
 entry2524 = refl
