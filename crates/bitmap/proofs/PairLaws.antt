@@ -4,20 +4,20 @@ use mathlib.Core.Path.{_≡_, refl, sym, ap, ap₂, _∙_}
 use mathlib.Core.Bool.{Bool, true, false, not, _&&_, _||_}
 use mathlib.Core.List.{List}
 use Prim.Native.Nat.{ℕ, zero, suc, _+_, _-_, _*_, _/_, _%_, _^_, _≤_, _<_}
-use native.Mathlib.Nat.{zero-mul, mul-comm, mul-mod-left, mod-lt, div-add-mod', add-comm, zero-add, sub-self}
+use native.Mathlib.Nat.{zero-mul, mul-comm, eq-of-mul-eq-mul-right, mul-mod-left, mod-lt, div-add-mod', add-comm, zero-add, sub-self}
 use native.Mathlib.Decide.{ℕ-discrete}
 use native.Mathlib.Omega.{arith}
 use borrow.Author.Tests.{eqb-true, eq-eqb, ne-eqb, not-true, not-false}
-use lib.Bits.{bitAnd, bitOr, or-lt}
+use lib.Bits.{bitAnd, bitOr, and-lt}
 use lib.Dec.{eqb}
 use lib.ListN.{length}
 use lib.Pow.{pow-pos, shl-shr, shr-shr, mod-pow-add}
-use Rattle.rules.specs.Lists.{all, range}
+use Rattle.rules.specs.Lists.{if_then_else_, all, range}
 use Rattle.rules.specs.Bytes.{le, part, Bytes, bitSet}
 use Rattle.rules.proofs.ListLaws.{test-cases, clash, and-left, and-right, and-intro, all-append, all-range-at, all-range-of, range-add}
 use Rattle.bitmap.specs.Map.{bitOf}
-use Rattle.bitmap.specs.Pair.{only, inside, Fails}
-use Rattle.bitmap.proofs.BitLaws.{bit-zero, bit-or, bit-and, bit-not, bit-below, bits-same}
+use Rattle.bitmap.specs.Pair.{only, inside, Holds, Fails}
+use Rattle.bitmap.proofs.BitLaws.{bit-zero, bit-or, bit-and, bit-not, bit-below, bit-alike, bits-same}
 use Rattle.bitmap.proofs.MapLaws.{word-bit}
 
 -- ---- tests
@@ -94,6 +94,52 @@ clear-part w s n h =
     (λ j l. bit-low-part (w / 2 ^ s) n j l ∙ bit-shifted w s j ∙ not-true (bitOf w (s + j)) (all-range-at (λ j. not (bitOf w j)) s n e j l) ∙ sym (bit-zero j)) in
     moved (w / 2 ^ s) n h ∙ rw (z, zero-mul (2 ^ (64 - n))) refl)
 
+-- numbers are equal where a test passes
+equal-says : (x y : ℕ) (b : Bool) → (x ≡ y → b ≡ true) → (b ≡ true → x ≡ y) → eqb x y ≡ b
+equal-says x y b f g = same-tests (eqb x y) b (λ e. f (eqb-true x y e)) (λ e. eq-eqb x y (g e))
+
+-- every bit of the word of ones is set
+bit-ones : (j : ℕ) → j < 64 → bitOf 0xffffffffffffffff j ≡ true
+bit-ones j h = unfold if_then_else_ in bit-alike true j h
+
+-- the test of n bits of a word, that all are set
+pub set-part : (w s n : ℕ) → n ≤ 64 → eqb (w / 2 ^ s * 2 ^ (64 - n) % 2 ^ 64) (0xffffffffffffffff * 2 ^ (64 - n) % 2 ^ 64) ≡ all (bitOf w) (range s n)
+set-part w s n h =
+    equal-says (w / 2 ^ s * 2 ^ (64 - n) % 2 ^ 64) (0xffffffffffffffff * 2 ^ (64 - n) % 2 ^ 64) (all (bitOf w) (range s n))
+    (λ e. let z : w / 2 ^ s % 2 ^ n ≡ 0xffffffffffffffff % 2 ^ n =
+    eq-of-mul-eq-mul-right (2 ^ (64 - n)) (pow-pos (64 - n)) (w / 2 ^ s % 2 ^ n) (0xffffffffffffffff % 2 ^ n) (sym (moved (w / 2 ^ s) n h) ∙ e ∙ moved 0xffffffffffffffff n h) in
+    all-range-of (bitOf w) s n
+    (λ i l. sym (bit-shifted w s i) ∙ sym (bit-low-part (w / 2 ^ s) n i l) ∙ ap (λ (x : ℕ). bitOf x i) z ∙ bit-low-part 0xffffffffffffffff n i l ∙ bit-ones i (omega arith)))
+    (λ e. let z : w / 2 ^ s % 2 ^ n ≡ 0xffffffffffffffff % 2 ^ n =
+    bits-same n (w / 2 ^ s % 2 ^ n) (0xffffffffffffffff % 2 ^ n) (mod-lt (w / 2 ^ s) (pow-pos n)) (mod-lt 0xffffffffffffffff (pow-pos n))
+    (λ j l. bit-low-part (w / 2 ^ s) n j l ∙ bit-shifted w s j ∙ all-range-at (bitOf w) s n e j l ∙ sym (bit-low-part 0xffffffffffffffff n j l ∙ bit-ones j (omega arith))) in
+    moved (w / 2 ^ s) n h ∙ ap (λ (x : ℕ). x * 2 ^ (64 - n)) z ∙ sym (moved 0xffffffffffffffff n h))
+
+-- the test of n bits of the word of those that pass
+pub holds-part : (f : ℕ → Bool) (a w s n : ℕ) (r : Bool) → Holds f a w → s + n ≤ 64 → r ≡ all (bitOf w) (range s n) → r ≡ all f (range (a + s) n)
+holds-part f a w s n r h l e = e ∙ range-same (bitOf w) f s (a + s) n (λ i m. h .bits (s + i) (omega arith) ∙ ap f (omega arith))
+
+-- a word all of whose bits pass
+holds-all : (f : ℕ → Bool) (a w : ℕ) → w < 2 ^ 64 → Holds f a w → eqb w 0xffffffffffffffff ≡ all f (range a 64)
+holds-all f a w l h =
+    equal-says w 0xffffffffffffffff (all f (range a 64))
+    (λ e. all-range-of f a 64 (λ i m. sym (h .bits i m) ∙ ap (λ (x : ℕ). bitOf x i) e ∙ bit-ones i m))
+    (λ e. bits-same 64 w 0xffffffffffffffff l (omega arith) (λ j m. h .bits j m ∙ all-range-at f a 64 e j m ∙ sym (bit-ones j m)))
+
+-- a word put together of two has all bits where both have
+and-ones : (x y : ℕ) → x < 2 ^ 64 → y < 2 ^ 64 → eqb (bitAnd x y) 0xffffffffffffffff ≡ (eqb x 0xffffffffffffffff && eqb y 0xffffffffffffffff)
+and-ones x y l m =
+    equal-says (bitAnd x y) 0xffffffffffffffff (eqb x 0xffffffffffffffff && eqb y 0xffffffffffffffff)
+    (λ e. and-intro (eqb x 0xffffffffffffffff) (eqb y 0xffffffffffffffff)
+    (eq-eqb x 0xffffffffffffffff (bits-same 64 x 0xffffffffffffffff l (omega arith) (λ j h. and-left (bitOf x j) (bitOf y j) (bits e j h) ∙ sym (bit-ones j h))))
+    (eq-eqb y 0xffffffffffffffff (bits-same 64 y 0xffffffffffffffff m (omega arith) (λ j h. and-right (bitOf x j) (bitOf y j) (bits e j h) ∙ sym (bit-ones j h)))))
+    (λ e. bits-same 64 (bitAnd x y) 0xffffffffffffffff (and-lt 64 x y l m) (omega arith)
+    (λ j h. bit-and x y j
+    ∙ rw (eqb-true x 0xffffffffffffffff (and-left (eqb x 0xffffffffffffffff) (eqb y 0xffffffffffffffff) e), eqb-true y 0xffffffffffffffff (and-right (eqb x 0xffffffffffffffff) (eqb y 0xffffffffffffffff) e), bit-ones j h) refl))
+  where
+    bits : bitAnd x y ≡ 0xffffffffffffffff → (j : ℕ) → j < 64 → (bitOf x j && bitOf y j) ≡ true
+    bits e j h = sym (bit-and x y j) ∙ ap (λ (z : ℕ). bitOf z j) e ∙ bit-ones j h
+
 -- an inversion on the other side
 not-other : (a b : Bool) → a ≡ not b → not a ≡ b
 not-other a true e = rw e refl
@@ -147,16 +193,23 @@ failed-more f i k t w e h l m o =
     let g : 8 * i + 8 * (k - i) ≡ 8 * k = omega arith in
     or-zero t w l m ∙ rw (d, all-add f (8 * i) (8 * (k - i)) 64, g, e, fails-none f (8 * k) w m h) refl
 
+-- the same of words of the bits that pass: before the first
+pub passed-yet : (f : ℕ → Bool) (i : ℕ) → eqb 0xffffffffffffffff 0xffffffffffffffff ≡ all f (range (8 * i) (8 * (i - i)))
+unfolding all range
+passed-yet f i = rw (sub-self i) refl
+
+-- after one more
+pub passed-more : (f : ℕ → Bool) (i k t w : ℕ) → eqb t 0xffffffffffffffff ≡ all f (range (8 * i) (8 * (k - i))) → Holds f (8 * k) w → t < 2 ^ 64 → w < 2 ^ 64 → i ≤ k
+    → eqb (bitAnd t w) 0xffffffffffffffff ≡ all f (range (8 * i) (8 * (k + 8 - i)))
+passed-more f i k t w e h l m o =
+    let d : 8 * (k + 8 - i) ≡ 8 * (k - i) + 64 = omega arith in
+    let g : 8 * i + 8 * (k - i) ≡ 8 * k = omega arith in
+    and-ones t w l m ∙ rw (d, all-add f (8 * i) (8 * (k - i)) 64, g, e, holds-all f (8 * k) w m h) refl
+
 -- ---- the words of two maps
 
--- where a bit is not only in the one map
-not-and : (a b : Bool) → (not a || b) ≡ not (a && not b)
-not-and true true = refl
-not-and true false = refl
-not-and false b = refl
-
--- where it is not inside
-not-or : (a b : Bool) → (b && not a) ≡ not (not b || a)
+-- where a bit is not inside the first map
+not-or : (a b : Bool) → (not a && b) ≡ not (not b || a)
 not-or true true = refl
 not-or true false = refl
 not-or false true = refl
@@ -166,7 +219,7 @@ not-or false false = refl
 byte-first : (i : ℕ) → i ≡ 8 * i / 8
 byte-first i = omega arith
 
-module _ (m x : List ℕ) (i a b : ℕ) (p : a ≡ le (part i 8 m)) (q : b ≡ le (part i 8 x)) (l : a < 2 ^ 64) (c : Bytes m) (d : Bytes x) where
+module _ (m x : List ℕ) (i a b : ℕ) (p : a ≡ le (part i 8 m)) (q : b ≡ le (part i 8 x)) (l : a < 2 ^ 64) (o : b < 2 ^ 64) (c : Bytes m) (d : Bytes x) where
   -- a bit of the first word
   bit-first : (j : ℕ) → j < 64 → bitOf a j ≡ bitSet m (8 * i + j)
   bit-first j h = word-bit m (8 * i) a j (rw (← byte-first i) p) (omega arith) c h
@@ -175,21 +228,17 @@ module _ (m x : List ℕ) (i a b : ℕ) (p : a ≡ le (part i 8 m)) (q : b ≡ l
   bit-second : (j : ℕ) → j < 64 → bitOf b j ≡ bitSet x (8 * i + j)
   bit-second j h = word-bit x (8 * i) b j (rw (← byte-first i) q) (omega arith) d h
 
-  -- the first inverted, or the second: the bits that are not only in the first map
-  pub fails-only : Fails (only m x) (8 * i) (bitOr (2 ^ 64 - 1 - a) b)
+  -- the first, and the second inverted: the bits that are only in the first map
+  pub holds-only : Holds (only m x) (8 * i) (bitAnd a (2 ^ 64 - 1 - b))
   unfolding only
-  fails-only = record {
-    bits = λ j h.
-        bit-or (2 ^ 64 - 1 - a) b j
-        ∙ rw (bit-not 64 a j l h, bit-first j h, bit-second j h) (not-and (bitSet m (8 * i + j)) (bitSet x (8 * i + j)));
-  }
+  holds-only = record { bits = λ j h. bit-and a (2 ^ 64 - 1 - b) j ∙ rw (bit-not 64 b j o h, bit-first j h, bit-second j h) refl }
 
-  -- the second, and the first inverted: the bits that are not inside the first map
-  pub fails-inside : Fails (inside m x) (8 * i) (bitAnd b (2 ^ 64 - 1 - a))
+  -- the first inverted, and the second: the bits that are not inside the first map
+  pub fails-inside : Fails (inside m x) (8 * i) (bitAnd (2 ^ 64 - 1 - a) b)
   unfolding inside
   fails-inside = record {
     bits = λ j h.
-        bit-and b (2 ^ 64 - 1 - a) j
+        bit-and (2 ^ 64 - 1 - a) b j
         ∙ rw (bit-not 64 a j l h, bit-first j h, bit-second j h) (not-or (bitSet m (8 * i + j)) (bitSet x (8 * i + j)));
   }
 
@@ -209,6 +258,12 @@ pub part-of : (f : ℕ → Bool) (a w n : ℕ) (r : Bool) → Fails f (8 * (a / 
 part-of f a w n r h e l =
     let d : 8 * (a / 64 * 8) + a % 64 ≡ a = omega arith in
     rw d at (fails-part f (8 * (a / 64 * 8)) w (a % 64) n r h l e)
+
+-- the same of the word of those that pass
+pub holds-of : (f : ℕ → Bool) (a w n : ℕ) (r : Bool) → Holds f (8 * (a / 64 * 8)) w → r ≡ all (bitOf w) (range (a % 64) n) → a % 64 + n ≤ 64 → r ≡ all f (range a n)
+holds-of f a w n r h e l =
+    let d : 8 * (a / 64 * 8) + a % 64 ≡ a = omega arith in
+    rw d at (holds-part f (8 * (a / 64 * 8)) w (a % 64) n r h l e)
 
 -- no bit from a to e
 pub none-of : (f : ℕ → Bool) (a e : ℕ) → a ≡ e → true ≡ all f (range a (e - a))

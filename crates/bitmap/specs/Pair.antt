@@ -15,6 +15,10 @@ only m x k = bitSet m k && not (bitSet x k)
 unfoldable pub inside : List ℕ → List ℕ → ℕ → Bool
 inside m x k = not (bitSet x k) || bitSet m k
 
+-- of the 64 bits from a on, those that pass the test are the ones that are set in the word
+pub record Holds (f : ℕ → Bool) (a w : ℕ) : Type 0 where
+  pub bits : (j : ℕ) → j < 64 → bitOf w j ≡ f (a + j)
+
 -- of the 64 bits from a on, those that fail the test are the ones that are set in the word
 pub record Fails (f : ℕ → Bool) (a w : ℕ) : Type 0 where
   pub bits : (j : ℕ) → j < 64 → bitOf w j ≡ not (f (a + j))

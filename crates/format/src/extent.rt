@@ -180,7 +180,7 @@ pub fn extent_fixed(s: &[u8], at: usize) -> bool
     if s[at + super::key::TAG_AT] != EXTENT_TAG {
         return false;
     }
-    words::range::is_zero(s, at + ZEROS_AT, at + EXTENT_BYTES)
+    words::le32(s, at + ZEROS_AT) == 0
 }
 
 // The key of an extent, at `at`.

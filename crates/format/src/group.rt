@@ -7,6 +7,7 @@ ghost use lib.Count.{leadingZeros};
 ghost use lib.Dec.{eqb};
 ghost use lib.ListN.{length, getD, set};
 ghost use Rattle.rules.specs.Bytes.{part, patch};
+ghost use Rattle.rules.specs.Lists.{range, all};
 ghost use Rattle.rules.specs.Sizes.{groupUnits};
 ghost use Rattle.rules.specs.Group.{groupBytes, groupKey, slotBytes, encodeGroup, decodeGroup, groupFixed, absentZero, emptyGroup, checksumSlot, setChecksumSlot, upToPresent};
 ghost use Rattle.format.specs.Records.{keyBytes, presenceBytes, slotWidth, slotsFrom, slotsOf, groupOf, crcOf, valueOf, valueBytes, valuesAt, slotRight, UpTo};
@@ -203,16 +204,50 @@ pub fn group_fixed(s: &[u8], at: usize) -> bool
     s[at + super::key::TAG_AT] == GROUP_TAG
 }
 
-// Whether slot `n` of the group at `at` is present, or zero.
-fn slot_right(s: &[u8], at: usize, n: usize) -> bool
+// One where bit `k` of a byte, counted from the low bit, is clear, and zero where it is set.
+fn clear_at(byte: u8, k: usize) -> u32
+    requires { ⌜ k < 8 ⌝ }
+    ensures { λ r. ⌜ r ≡ 1 - byte / 2 ^ k % 2 ⌝ }
+{
+    1 - ((byte >> k) % 2) as u32
+}
+
+// What stands in slot `n` of the group at `at` where it is not present, and zero where it is. A product, not a branch: many slots are taken at a
+// time.
+fn absent_value(s: &[u8], at: usize, n: usize) -> u32
     requires { ⌜ at + groupBytes ≤ length (now s) ⌝ }
     requires { ⌜ n < groupUnits ⌝ }
-    ensures { λ r. ⌜ r ≡ slotRight (part at groupBytes (now (s .entry))) n ⌝ }
+    ensures { λ r. ⌜ eqb r 0 ≡ slotRight (part at groupBytes (now (s .entry))) n ⌝ }
 {
-    if bit_at(s[at + PRESENCE_AT + n / 8], n % 8) {
-        return true;
+    let v = words::le32(s, at + SLOTS_AT + SLOT_BYTES * n);
+    v * clear_at(s[at + PRESENCE_AT + n / 8], n % 8)
+}
+
+// The slots of presence byte `b` that are not present, their values put together.
+fn absent_values(s: &[u8], at: usize, b: usize) -> u32
+    requires { ⌜ at + groupBytes ≤ length (now s) ⌝ }
+    requires { ⌜ b < presenceBytes ⌝ }
+    ensures { λ r. ⌜ eqb r 0 ≡ all (slotRight (part at groupBytes (now (s .entry)))) (range (8 * b) 8) ⌝ }
+{
+    let mut any: u32 = 0;
+    let mut k: usize = 0;
+    while k < 8 {
+        any = any | absent_value(s, at, 8 * b + k);
+        k += 1;
     }
-    words::le32(s, at + SLOTS_AT + SLOT_BYTES * n) == 0
+    any
+}
+
+// The same; where all eight are present there is nothing to read.
+fn absent_byte(s: &[u8], at: usize, b: usize) -> u32
+    requires { ⌜ at + groupBytes ≤ length (now s) ⌝ }
+    requires { ⌜ b < presenceBytes ⌝ }
+    ensures { λ r. ⌜ eqb r 0 ≡ all (slotRight (part at groupBytes (now (s .entry)))) (range (8 * b) 8) ⌝ }
+{
+    if s[at + PRESENCE_AT + b] == 0xff {
+        return 0;
+    }
+    absent_values(s, at, b)
 }
 
 // Whether each slot of the group at `at` that is not present is zero.
@@ -220,14 +255,13 @@ pub fn absent_zero(s: &[u8], at: usize) -> bool
     requires { ⌜ at + groupBytes ≤ length (now s) ⌝ }
     ensures { λ r. ⌜ r ≡ absentZero (part at groupBytes (now (s .entry))) ⌝ }
 {
-    let mut n: usize = 0;
-    while n < GROUP_UNITS {
-        if !slot_right(s, at, n) {
-            return false;
-        }
-        n += 1;
+    let mut any: u32 = 0;
+    let mut b: usize = 0;
+    while b < PRESENCE_BYTES {
+        any = any | absent_byte(s, at, b);
+        b += 1;
     }
-    true
+    any == 0
 }
 
 // The key of a group, at `at`.

@@ -57,14 +57,19 @@ first-reserved r u x a n z l =
     (λ h. sym h)
 
 -- none is
-pub none-reserved : (r : ℕ) (u x : List ℕ) (a n : ℕ) (m : Bool) → r ≤ a → m ≡ all (only u x) (range a (a + n - a)) → m ≡ blocksMappable r u x a n
+pub none-reserved : (r : ℕ) (u x : List ℕ) (a n : ℕ) (m : Bool) → r ≤ a → m ≡ all (only u x) (range a n) → m ≡ blocksMappable r u x a n
 unfolding blocksMappable mappable
 none-reserved r u x a n m l e =
-    let d : a + n - a ≡ n = omega arith in
-    (rw d at e)
+    e
     ∙ same-tests (all (only u x) (range a n)) (all (λ k. only u x k && leb r k) (range a n))
     (λ h. all-and (only u x) (leb r) (range a n) h (all-range-of (leb r) a n (λ i g. le-leb r (a + i) (omega arith))))
     (λ h. all-weaken (only u x) (λ k. only u x k && leb r k) (range a n) (λ k g. and-left (only u x k) (leb r k) g) h)
+
+-- the same of a range by its end
+pub none-reserved-to : (r : ℕ) (u x : List ℕ) (a n : ℕ) (m : Bool) → r ≤ a → m ≡ all (only u x) (range a (a + n - a)) → m ≡ blocksMappable r u x a n
+none-reserved-to r u x a n m l e =
+    let d : a + n - a ≡ n = omega arith in
+    none-reserved r u x a n m l (rw d at e)
 
 -- an extent that has blocks on the device
 pub placed-count : (b : ℕ) (e : Extent) → placed b e ≡ true → 0 < e .count

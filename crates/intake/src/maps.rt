@@ -11,16 +11,20 @@ ghost use Rattle.book.specs.Places.{recordAt};
 ghost use Rattle.intake.specs.MapTests.{blocksMappable, extentMappable, mapsAlone, mapsRight, placed, Paired, MapsSized};
 use format::extent::EXTENT_BYTES;
 
-// Whether the `count` blocks from `first` on are used, not retired and not reserved.
+// Whether the `count` blocks from `first` on are used, not retired and not reserved. Those of most extents lie in one word.
 fn blocks_mappable(first: u64, count: u32, reserved: usize, used: &[u8], retired: &[u8]) -> bool
     requires { ⌜ Paired (now used) (now retired) ⌝ }
     requires { ⌜ (0 < count) × (first + count ≤ 8 * length (now used)) ⌝ }
     ensures { λ r. ⌜ r ≡ blocksMappable reserved (now (used .entry)) (now (retired .entry)) first count ⌝ }
 {
     let a = first as usize;
-    let e = a + count as usize;
+    let n = count as usize;
+    let e = a + n;
     if a < reserved {
         return false;
+    }
+    if n <= 64 - a % 64 {
+        return bitmap::pair::only_in_word(used, retired, a, n);
     }
     bitmap::pair::all_only(used, retired, a, e)
 }

@@ -7,6 +7,7 @@ ghost use Rattle.rules.specs.Crc32c.{crc32c};
 ghost use Rattle.probe.specs.Probe.{copied, mapBits, countSet, allClear};
 
 pub mod allocate;
+pub mod books;
 pub mod extents;
 pub mod group;
 
