@@ -4,6 +4,7 @@
 mod probe {
     unsafe extern "C" {
         pub fn sangueko_probe_crc32c(bytes: *const u8, len: usize) -> u32;
+        pub fn sangueko_probe_crc32c_repeated(bytes: *const u8, len: usize, times: usize) -> u32;
         pub fn sangueko_probe_is_zero(bytes: *const u8, len: usize) -> bool;
         pub fn sangueko_probe_copy(to: *mut u8, to_len: usize, from: *const u8, from_len: usize);
         pub fn sangueko_probe_count_set(map: *const u8, len: usize) -> usize;
@@ -40,6 +41,11 @@ mod probe {
 
 pub fn crc32c(bytes: &[u8]) -> u32 {
     unsafe { probe::sangueko_probe_crc32c(bytes.as_ptr(), bytes.len()) }
+}
+
+/// The CRC-32C of the bytes as many times one behind the other.
+pub fn crc32c_repeated(bytes: &[u8], times: usize) -> u32 {
+    unsafe { probe::sangueko_probe_crc32c_repeated(bytes.as_ptr(), bytes.len(), times) }
 }
 
 pub fn is_zero(bytes: &[u8]) -> bool {
