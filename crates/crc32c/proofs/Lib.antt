@@ -7,3 +7,4 @@ pub mod HistoryLaws
 pub mod Multiple
 pub mod LatestLaws
 pub mod WindowLaws
+pub mod UnitLaws

@@ -57,10 +57,10 @@ digits-stand c h =
     behind (suc (suc (suc zero))) p q = absurd (omega arith)
     behind (suc (suc (suc (suc j)))) p q = getD-zeros 524 j
 
-pub opened : (w x y : List ℕ) (c : ℕ) → x ≡ patch w 4 (replicate (528 - 4) 0) → y ≡ patch x 0 (leDigits 4 c) → length w ≡ 4624 → c < 2 ^ 32
+pub register-set : (w x y : List ℕ) (c : ℕ) → x ≡ patch w 4 (replicate (528 - 4) 0) → y ≡ patch x 0 (leDigits 4 c) → length w ≡ 4624 → c < 2 ^ 32
     → registerAt y 528 ≡ c
 unfolding registerAt
-opened w x y c p q l h =
+register-set w x y c p q l h =
     let d : List ℕ = leDigits 4 c ++ replicate 524 0 in
     let n4 : length (leDigits 4 c) ≡ 4 = length-leDigits 4 c in
     let n : length d ≡ 528 = rw length-append (omega arith) in

@@ -3,6 +3,7 @@
 // A caller begins, feeds parts, and finishes: `crc-parts` of proofs/Running.antt turns that into the checksum of the concatenation.
 // `tables` hands the tables out once: a constant that is indexed is copied at each use, so they go down by reference.
 mod table;
+pub mod unit;
 pub mod window;
 
 ghost use mathlib.Core.Path.{_≡_};
@@ -116,7 +117,7 @@ fn feed_window(t: &[u32; 4096], state: u32, s: &[u8]) -> u32
     ensures { λ r. ⌜ r ≡ fed state (now (s .entry)) ⌝ }
 {
     let mut w = [0u8; 4624];
-    window::open(&mut w, state);
+    window::set_register(&mut w, state);
     window::push(&mut w, s);
     window::register(t, &w)
 }

@@ -12,7 +12,7 @@ ghost use Rattle.crc32c.specs.Register.{fed, Tables};
 ghost use Rattle.crc32c.specs.Window.{registerAt, Clear};
 
 // The window stands for `c`.
-pub fn open(w: &mut [u8], c: u32)
+pub fn set_register(w: &mut [u8], c: u32)
     requires { ⌜ length (now w) ≡ 4624 ⌝ }
     ensures { λ _. ⌜ registerAt (now (w .exit)) 528 ≡ c ⌝ }
 {

@@ -5,11 +5,11 @@ use borrow.Author.Needs.{needs}
 use Rattle.crc32c.proofs.feed_window.Statement.{statement}
 use Rattle.crc32c.proofs.feed_window.Tie as tie
 
-slice-aggregate-open : tie.Need-slice-aggregate-open
-slice-aggregate-open c = search needs
+slice-aggregate-set-register : tie.Need-slice-aggregate-set-register
+slice-aggregate-set-register c = search needs
 
-open-requires : tie.Need-open-requires
-open-requires c κs = search needs
+set-register-requires : tie.Need-set-register-requires
+set-register-requires c κs = search needs
 
 slice-aggregate-push : tie.Need-slice-aggregate-push
 slice-aggregate-push c = search needs
@@ -30,8 +30,8 @@ pub feed-window-spec : {M : Type 1} → statement M
 feed-window-spec =
     tie.close
     (tie.spec
-    slice-aggregate-open
-    open-requires
+    slice-aggregate-set-register
+    set-register-requires
     slice-aggregate-push
     push-requires
     slice-aggregate-register
