@@ -1,4 +1,5 @@
-// CRC-32C by tables, sixteen bytes at once, and the checksum of a unit.
+// CRC-32C and the checksum of a unit: by tables, sixteen bytes at once, and for more than some bytes through a window (`window`), which leaves the
+// tables a short message. `unit` has the checksum of a unit that comes in pieces.
 //
 // A caller begins, feeds parts, and finishes: `crc-parts` of proofs/Running.antt turns that into the checksum of the concatenation.
 // `tables` hands the tables out once: a constant that is indexed is copied at each use, so they go down by reference.
@@ -111,7 +112,7 @@ pub fn feed_tables(t: &[u32; 4096], state: u32, s: &[u8]) -> u32
     feed_rest(t, c, s, s.len() / 16 * 16)
 }
 
-// The same through a window, which needs 528 bytes of tables at the end.
+// The same through a window. The clearing of the window and the 528 bytes left for the tables cost as much as the tables do for about 1,000 bytes.
 fn feed_window(t: &[u32; 4096], state: u32, s: &[u8]) -> u32
     requires { ⌜ Tables (now t) ⌝ }
     ensures { λ r. ⌜ r ≡ fed state (now (s .entry)) ⌝ }
@@ -127,7 +128,7 @@ pub fn feed(t: &[u32; 4096], state: u32, s: &[u8]) -> u32
     requires { ⌜ Tables (now t) ⌝ }
     ensures { λ r. ⌜ r ≡ fed state (now (s .entry)) ⌝ }
 {
-    if s.len() < 1536 {
+    if s.len() < 1280 {
         return feed_tables(t, state, s);
     }
     feed_window(t, state, s)

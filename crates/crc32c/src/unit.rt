@@ -30,7 +30,7 @@ pub fn begin(
     ensures { λ r. ⌜ UnitFed r (now (w .exit)) (now (uuid .entry)) object unit valid [] ⌝ }
 {
     let c = super::begin_unit(t, uuid, object, unit, valid);
-    if valid < 1536 {
+    if valid < 1024 {
         return Running::Register(c);
     }
     super::window::set_register(w, c);

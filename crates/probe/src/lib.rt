@@ -9,6 +9,7 @@ ghost use Rattle.probe.specs.Probe.{repeated, copied, mapBits, countSet,
 pub mod allocate;
 pub mod extents;
 pub mod group;
+pub mod unit;
 
 // The CRC-32C of `bytes`.
 #[no_mangle]

@@ -15,7 +15,7 @@ same-length : tie.Need-same-length
 same-length c = search needs
 
 returns : tie.Need-returns
-returns c = search (register-set, needs)
+returns c = register-set _ _ _ _ (c .before .before .before .before .before .before .zero .ensures) (c .before .before .put-le32 .ensures) (search needs) (search needs)
 
 pub set-register-spec : {M : Type 1} → statement M
 set-register-spec = tie.close (tie.spec zero-requires put-le32-requires same-length returns)

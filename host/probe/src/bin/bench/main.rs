@@ -13,8 +13,8 @@ const ROUNDS: u32 = 5;
 const SPAN: Duration = Duration::from_millis(40);
 
 /// Many short rounds, of which some fall between the turns of whatever else runs.
-const SHORT_ROUNDS: u32 = 50;
-const SHORT_SPAN: Duration = Duration::from_millis(2);
+const SHORT_ROUNDS: u32 = 200;
+const SHORT_SPAN: Duration = Duration::from_micros(500);
 
 fn filled(len: usize) -> Vec<u8> {
     let mut x = 0x9e37_79b9_7f4a_7c15u64;
@@ -31,6 +31,7 @@ fn filled(len: usize) -> Vec<u8> {
 fn main() {
     println!("{:<52} {:>8} {:>8}", "", "ours", "theirs");
     crc();
+    pieces();
     ranges();
     maps();
     book();
@@ -73,7 +74,7 @@ fn crc() {
 
 /// Both sides feed the same bytes again and again.
 fn against(name: &str, bytes: &[u8], feed: impl Fn(u32, &[u8]) -> u32) {
-    let times = ((1 << 20) / bytes.len()).max(1);
+    let times = ((1 << 18) / bytes.len()).max(1);
     let theirs = |times| !(0..times).fold(!0, |c, _| feed(c, black_box(bytes)));
     for times in [0, 1, 3] {
         assert_eq!(proved::crc32c_repeated(bytes, times), theirs(times));
@@ -86,6 +87,24 @@ fn against(name: &str, bytes: &[u8], feed: impl Fn(u32, &[u8]) -> u32) {
     };
     let both = pair(SHORT_ROUNDS, SHORT_SPAN, ours, theirs);
     speeds(name, times * bytes.len(), both);
+}
+
+/// A unit of 64 KiB block by block and in one piece, each less what a unit without bytes takes: the copy of the tables and the twenty bytes and uuid
+/// before the unit's own.
+fn pieces() {
+    let (uuid, bytes) = ([7; 16], filled(64 << 10));
+    let unit = |bytes: &[u8], piece: usize| {
+        black_box(proved::unit_checksum(&uuid, 9, 3, black_box(bytes), piece));
+    };
+    let short = |ours: &dyn Fn(), theirs: &dyn Fn()| pair(SHORT_ROUNDS, SHORT_SPAN, ours, theirs);
+    let (none, _) = short(&|| unit(&[], 1), &|| ());
+    for (piece, name) in [(4096, "4 KiB"), (1000, "1,000 bytes")] {
+        let (by_pieces, whole) = short(&|| unit(&bytes, piece), &|| unit(&bytes, bytes.len()));
+        times(
+            &format!("a unit of 64 KiB by {name}, and in one piece"),
+            (by_pieces - none, whole - none),
+        );
+    }
 }
 
 fn ranges() {
