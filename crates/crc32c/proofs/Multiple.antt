@@ -4,7 +4,7 @@
 use mathlib.Core.Path.{_≡_, refl, sym, ap, ap₂, _∙_}
 use mathlib.Core.List.{List}
 use Prim.Native.Nat.{ℕ, zero, suc, _+_, _*_, _/_, _%_, _^_, _<_}
-use native.Mathlib.Nat.{pow-suc, mul-assoc, mul-comm, add-zero, add-suc, suc-add, zero-add, zero-mul, one-mul, mul-one, add-mul}
+use native.Mathlib.Nat.{pow-suc, mul-assoc, mul-comm, add-zero, add-suc, suc-add, zero-mul, one-mul, mul-one, add-mul}
 use native.Mathlib.Omega.{arith}
 use lib.Bits.{bitXor, xor-zero-r, xor-self, xor-shifted, xor-block}
 use lib.Pow.{pow-pos, pow-add}

@@ -1,7 +1,7 @@
 -- `probe::sangueko_probe_crc32c_repeated` meets its contract. The loop keeps: `c` is the register after `i` times the bytes.
 -- Assumes nothing.
 use native.Mathlib.Omega.{arith}
-use Prim.Native.Nat.{_-_, _^_, _≤_, _<_}
+use Prim.Native.Nat.{_-_, _≤_}
 use mathlib.Core.Path.{_≡_}
 use Rattle.crc32c.specs.Register.{fed, begun}
 use Rattle.probe.specs.Probe.{repeated}
