@@ -1,4 +1,4 @@
-//! The proved `allocate_data` and group functions against their published text.
+//! The proved `allocate_data` and group functions against their published text, and the checksums against a bit by bit one.
 
 use oracle::parts;
 use probe::{Call, GroupRecord};
@@ -93,6 +93,65 @@ fn allocate_data_on_random_maps() {
         let wanted: Vec<u64> = (0..units).map(|_| random.below(17)).collect();
         same_blocks(&map, blocks, random.below(6), &wanted);
     }
+}
+
+/// CRC-32C bit by bit.
+fn crc32c(bytes: &[u8]) -> u32 {
+    !bytes.iter().fold(!0u32, |crc, byte| {
+        (0..8).fold(crc ^ u32::from(*byte), |crc, _| {
+            (crc >> 1) ^ if crc & 1 == 1 { 0x82f6_3b78 } else { 0 }
+        })
+    })
+}
+
+#[test]
+fn crc32c_around_its_lengths() {
+    assert_eq!(probe::crc32c(b"123456789"), 0xe306_9283);
+    let mut random = Random(528);
+    let bytes: Vec<u8> = (0..70_001).map(|_| random.next() as u8).collect();
+    // Where the tables give way to the window, where the window is full, and about whole rooms of it.
+    let edges = [0, 16, 528, 1024, 4096, 4624, 8192, 65_536, 70_000];
+    for len in edges
+        .into_iter()
+        .flat_map(|n: usize| n.saturating_sub(2)..n + 2)
+    {
+        for from in [0, 1, 7]
+            .into_iter()
+            .filter(|from| from + len <= bytes.len())
+        {
+            let part = &bytes[from..from + len];
+            assert_eq!(probe::crc32c(part), crc32c(part), "{len} bytes from {from}");
+        }
+    }
+}
+
+#[test]
+fn unit_checksum_in_pieces() {
+    let mut random = Random(4624);
+    let uuid = [3u8; 16];
+    for len in [0, 1, 1023, 1024, 1025, 4096, 9_000, 65_536] {
+        let bytes: Vec<u8> = (0..len).map(|_| random.next() as u8).collect();
+        let mut message = uuid.to_vec();
+        message.extend(5u64.to_be_bytes());
+        message.extend(2u64.to_be_bytes());
+        message.extend((len as u32).to_be_bytes());
+        message.extend(&bytes);
+        for piece in [1, 15, 527, 528, 1000, 4095, 4096, 4097, 70_000] {
+            let ours = probe::unit_checksum(&uuid, 5, 2, &bytes, piece);
+            assert_eq!(ours, crc32c(&message), "{len} bytes by {piece}");
+        }
+    }
+}
+
+/// A call's stack is to stay small: 256 KiB are enough for the window and the tables.
+#[test]
+fn unit_checksum_on_a_small_stack() {
+    let run = || {
+        let bytes = vec![1u8; 65_536];
+        probe::unit_checksum(&[0; 16], 1, 1, &bytes, 4096)
+    };
+    let small = std::thread::Builder::new().stack_size(256 << 10);
+    assert_eq!(small.spawn(run).unwrap().join().unwrap(), run());
 }
 
 #[test]
