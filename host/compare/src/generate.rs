@@ -6,7 +6,7 @@ use model::{
     BLOCK_BYTES, Call, GROUP_BLOCKS, MAX_SIZE, MAX_TRANSFER_BYTES, Store, Time, UNIT_BYTES, Volume,
 };
 
-use crate::rng::Rng;
+use random::Rng;
 
 /// What kind of store a history runs on.
 #[derive(Clone, Copy, Debug, PartialEq, Eq, PartialOrd, Ord)]
