@@ -47,7 +47,8 @@ pub struct Failure {
 /// call only where a block became used.
 const WHOLE_IMAGE_BYTES: usize = 8 << 20;
 
-fn same_images(document: &Store, rust: &Store, used_before: &[u8]) -> bool {
+/// Whether the images are equal, as far as is looked at after each call.
+pub fn same_images(document: &Store, rust: &Store, used_before: &[u8]) -> bool {
     if document.image.len() <= WHOLE_IMAGE_BYTES {
         return document.image == rust.image;
     }
