@@ -240,6 +240,7 @@ pub fn alone() -> Vec<Alone> {
     extents(&mut list);
     groups(&mut list);
     maps(&mut list);
+    words(&mut list);
     list.all
 }
 
@@ -636,6 +637,82 @@ fn maps(list: &mut List) {
             s.retired[bit / 8] |= 1 << (bit % 8);
         });
     }
+}
+
+/// The words on the maps again where the maps have four words: 200 blocks, 70
+/// reserved, a file C of 80 blocks from 100 on.
+fn words(list: &mut List) {
+    let mut store = Store::blank(200, 2, 2, 2);
+    let mut volume = Volume::decode(&store);
+    let size = 80 * BLOCK_BYTES as u64;
+    for (object, size) in [(B, 1_000), (C, size)] {
+        volume.cards.push(Card {
+            object,
+            size,
+            allocated: 80,
+            seconds: 0,
+            nanoseconds: 0,
+        });
+    }
+    let extent = Extent {
+        object: C,
+        logical: 0,
+        physical: 100,
+        count: 80,
+    };
+    (volume.reserved, volume.extents, volume.groups) = (70, vec![extent], vec![Group::empty(C, 0)]);
+    volume.used = (0..200).map(|block| block < 180).collect();
+    for unit in 0..5 {
+        let checksum = unit_checksum(&volume.uuid, C, unit, &[0; UNIT_BYTES as usize]);
+        volume.groups[0].slots[unit as usize] = Some(checksum);
+    }
+    volume.encode(&mut store);
+    let sound = std::mem::replace(&mut list.sound, store);
+    for block in [100, 127, 128, 129, 179] {
+        list.volume("mapped block not used", format!("{block} of 200"), |v| {
+            v.used[block] = false
+        });
+        list.volume("mapped block retired", format!("{block} of 200"), |v| {
+            v.retired[block] = true
+        });
+    }
+    for physical in [0, 63, 64, 69] {
+        list.volume("mapped block reserved", format!("{physical} of 200"), |v| {
+            v.extents[0].physical = physical
+        });
+    }
+    for block in [0, 63, 64, 69] {
+        list.volume("reserved block not used", format!("{block} of 200"), |v| {
+            v.used[block] = false
+        });
+        list.volume("reserved block retired", format!("{block} of 200"), |v| {
+            v.retired[block] = true
+        });
+    }
+    for block in [180, 191, 192, 199] {
+        list.volume("retired block not used", format!("{block} of 200"), |v| {
+            v.retired[block] = true
+        });
+    }
+    for bit in [200, 207, 208, 255] {
+        list.add(
+            "used bit past the last block",
+            2,
+            format!("{bit} of 200"),
+            |s| {
+                s.used[bit / 8] |= 1 << (bit % 8);
+            },
+        );
+        list.add(
+            "retired bit past the last block",
+            2,
+            format!("{bit} of 200"),
+            |s| {
+                s.retired[bit / 8] |= 1 << (bit % 8);
+            },
+        );
+    }
+    list.sound = sound;
 }
 
 impl List {

@@ -91,6 +91,7 @@ pub fn edges() -> Vec<Edge> {
     books(&mut all);
     holes(&mut all);
     neighbours(&mut all);
+    shared(&mut all);
     all
 }
 
@@ -217,6 +218,13 @@ fn transfers(all: &mut Vec<Edge>) {
         for offset in [0, 1, 40_000] {
             all.push(edge("a long write", &room, write(7, offset, length)));
         }
+    }
+    // The old tail unit and 17 more.
+    let calls = [enter(7), write(7, 0, 70_000)];
+    let tail = after(Store::blank(330, 1, 20, 2), 0, &calls);
+    for offset in [131_072, 131_073] {
+        let call = write(7, offset, MAX_TRANSFER_BYTES);
+        all.push(edge("a long write behind a tail", &tail, call));
     }
 }
 
@@ -419,6 +427,42 @@ fn neighbours(all: &mut Vec<Edge>) {
             volume.encode(store);
         });
         all.push(edge("another file's extent", &store, write(7, 0, 65_536)));
+    }
+}
+
+/// One block at two places of a file: kept, superseded, or both.
+fn shared(all: &mut Vec<Edge>) {
+    let calls = [enter(7), write(7, 0, 8_192)];
+    let store = after(Store::blank(12, 1, 4, 1), 1, &calls);
+    for allocated in [0, 1, 2, MAX_ALLOCATED] {
+        let store = with(&store, |store| {
+            let mut volume = Volume::decode(store);
+            let first = volume.extents[0];
+            volume.extents[0].count = 1;
+            volume.extents.push(Extent {
+                logical: 1,
+                count: 1,
+                ..first
+            });
+            volume.cards[0].allocated = allocated;
+            seal(&mut volume, &mut store.image);
+            volume.encode(store);
+        });
+        for (offset, length) in [
+            (0, 8_192),
+            (0, 10_000),
+            (0, 5_000),
+            (100, 10),
+            (4_096, 10),
+            (8_192, 1),
+        ] {
+            all.push(edge(
+                "a block at two places",
+                &store,
+                write(7, offset, length),
+            ));
+        }
+        all.push(edge("a block at two places", &store, read(7, 0, 9_000)));
     }
 }
 

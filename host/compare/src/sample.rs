@@ -8,7 +8,7 @@ use crate::broken::broken_stores;
 use crate::generate::{History, Profile};
 use crate::recorded::{Case, Source, Writer};
 use crate::run::{Verdict, judge};
-use crate::smallest::smallest;
+use crate::smallest::{RECORDED_FIRST, smallest};
 use crate::walk::{Event, Walk};
 
 /// The seed of the recorded answers.
@@ -28,11 +28,16 @@ pub fn answers(seed: u64) -> (Vec<u8>, usize) {
     for broken in broken_stores() {
         writer.case(&told(&broken.store, &broken.call));
     }
-    for smallest in smallest() {
+    let smallest = smallest();
+    let (first, later) = smallest.split_at(RECORDED_FIRST);
+    for smallest in first {
         writer.case(&told(&smallest.store, &smallest.call));
     }
     let wanted = |history: &History| history.profile != Profile::Groups;
     choose(seed, &mut writer, wanted, HISTORIES);
+    for smallest in later {
+        writer.case(&told(&smallest.store, &smallest.call));
+    }
     let calls = writer.calls;
     (writer.finish(), calls)
 }
