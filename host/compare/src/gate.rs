@@ -5,11 +5,11 @@
 use std::collections::BTreeMap;
 use std::fmt::Write;
 use std::panic::{AssertUnwindSafe, catch_unwind};
-use std::sync::LazyLock;
+use std::sync::{Arc, LazyLock};
 
 use model::{Answer, Call, Store};
 
-use crate::alone::{Alone, alone, calls, sound};
+use crate::alone::{alone, calls, sound};
 use crate::broken::broken_stores;
 use crate::edges::{Edge, edges, large, pairs, wide};
 use crate::guard::{Guarded, Side};
@@ -117,16 +117,37 @@ impl<'a> Gate<'a> {
         }
     }
 
-    /// One call on copies of a store.
-    pub fn one(&mut self, origin: &str, store: &Store, call: &Call) -> Outcome {
-        if !self.library.supports(call) {
-            return Ok(());
+    /// Single calls, each on its store. Calls on one store stand together.
+    fn single(&mut self, cases: &[Single]) -> Outcome {
+        let mut lent: Option<(&Arc<Store>, Store)> = None;
+        for Single { edge, expected } in cases {
+            let Edge { name, store, call } = edge;
+            if !self.library.supports(call) {
+                continue;
+            }
+            // A copy that a call has left as it was serves the next call.
+            let mut copy = match lent.take() {
+                Some((of, copy)) if Arc::ptr_eq(of, store) => copy,
+                _ => Store::clone(store),
+            };
+            let same = match expected {
+                Some(answer) => {
+                    let same = self.ask(&mut copy, call, answer);
+                    same.and_then(|()| same_store(store, &copy))
+                }
+                None => {
+                    let mut after = Store::clone(store);
+                    let answer = model::run(&mut after, call);
+                    let same = self.ask(&mut copy, call, &answer);
+                    same.and_then(|()| same_store(&after, &copy))
+                }
+            };
+            same.map_err(|reason| self.parted(name, reason, store, call))?;
+            if expected.is_some() {
+                lent = Some((store, copy));
+            }
         }
-        let (mut after, mut lent) = (store.clone(), store.clone());
-        let answer = model::run(&mut after, call);
-        let same = self.ask(&mut lent, call, &answer);
-        let same = same.and_then(|()| same_store(&after, &lent));
-        same.map_err(|reason| self.parted(origin, reason, store, call))
+        Ok(())
     }
 
     fn parted(&self, origin: &str, reason: String, store: &Store, call: &Call) -> Box<Parted> {
@@ -140,38 +161,23 @@ impl<'a> Gate<'a> {
     }
 
     pub fn edges(&mut self) -> Outcome {
-        static EDGES: LazyLock<Vec<Edge>> = LazyLock::new(edges);
-        for edge in EDGES.iter() {
-            self.one(&edge.name, &edge.store, &edge.call)?;
-        }
-        Ok(())
+        static EDGES: LazyLock<Vec<Single>> = LazyLock::new(|| prepared(edges()));
+        self.single(&EDGES)
     }
 
     /// Every word of refusals 1 and 2, met by every call.
     pub fn alone(&mut self) -> Outcome {
-        let calls = calls();
-        for cut in [false, true] {
-            for call in &calls {
-                self.one("a sound store", &sound(cut), call)?;
-            }
-        }
-        static ALONE: LazyLock<Vec<Alone>> = LazyLock::new(alone);
-        for broken in ALONE.iter() {
-            for call in &calls {
-                self.one(&broken.name, &broken.store, call)?;
-            }
-        }
-        for broken in broken_stores() {
-            self.one(broken.name, &broken.store, &broken.call)?;
-        }
-        Ok(())
+        static ALONE: LazyLock<Vec<Single>> = LazyLock::new(|| prepared(met_by_every_call()));
+        self.single(&ALONE)
     }
 
     pub fn pairs(&mut self) -> Outcome {
-        for edge in pairs() {
-            self.one(&edge.name, &edge.store, &edge.call)?;
-        }
-        Ok(())
+        let single = |edge| Single {
+            edge,
+            expected: None,
+        };
+        let pairs: Vec<Single> = pairs().into_iter().map(single).collect();
+        self.single(&pairs)
     }
 
     /// Calls on one store of three allocation groups, whose image goes on.
@@ -318,6 +324,51 @@ impl<'a> Gate<'a> {
         }
         text
     }
+}
+
+/// A call on its store, with the model's answer where the store stays as it
+/// is: for the others the model is asked each time, which spares their stores.
+struct Single {
+    edge: Edge,
+    expected: Option<Answer>,
+}
+
+fn prepared(edges: Vec<Edge>) -> Vec<Single> {
+    let prepare = |edge: Edge| {
+        let mut after = Store::clone(&edge.store);
+        let answer = model::run(&mut after, &edge.call);
+        Single {
+            expected: (after == *edge.store).then_some(answer),
+            edge,
+        }
+    };
+    edges.into_iter().map(prepare).collect()
+}
+
+/// The sound stores and those that break a word, met by every call; and the
+/// broken stores that are recorded.
+fn met_by_every_call() -> Vec<Edge> {
+    let sound = [false, true].map(|cut| ("a sound store".into(), Arc::new(sound(cut))));
+    let alone = alone()
+        .into_iter()
+        .map(|broken| (broken.name, Arc::new(broken.store)));
+    let met = sound
+        .into_iter()
+        .chain(alone)
+        .flat_map(|(name, store): (String, _)| {
+            let met = move |call| Edge {
+                name: name.clone(),
+                store: Arc::clone(&store),
+                call,
+            };
+            calls().into_iter().map(met)
+        });
+    let recorded = broken_stores().into_iter().map(|broken| Edge {
+        name: broken.name.into(),
+        store: Arc::new(broken.store),
+        call: broken.call,
+    });
+    met.chain(recorded).collect()
 }
 
 fn is_zero(bytes: &[u8]) -> bool {
