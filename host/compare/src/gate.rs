@@ -6,8 +6,9 @@ use std::collections::BTreeMap;
 use std::fmt::Write;
 use std::panic::{AssertUnwindSafe, catch_unwind};
 use std::sync::{Arc, LazyLock};
+use std::time::Duration;
 
-use model::{Answer, Call, Store};
+use model::{Answer, Call, Store, passes_refusals_1_and_2};
 
 use crate::alone::{alone, calls, sound};
 use crate::broken::broken_stores;
@@ -15,7 +16,7 @@ use crate::edges::{Edge, edges, large, pairs, wide};
 use crate::guard::{Guarded, Side};
 use crate::library::Library;
 use crate::run::same_images;
-use crate::shrink::describe;
+use crate::shrink::{describe, minimise};
 use crate::walk::{Event, Walk};
 
 /// The seed of the gate's histories.
@@ -26,6 +27,9 @@ pub const HISTORY_CALLS: u64 = 20_000;
 const EARLY_CALLS: u64 = 2_000;
 /// Calls of histories between guard pages, on each side.
 const GUARDED_CALLS: u64 = 1_500;
+
+/// How long a failing case is made smaller.
+const SHRINKING: Duration = Duration::from_secs(10);
 
 /// A call on which library and model part.
 #[derive(Debug)]
@@ -44,6 +48,28 @@ impl Parted {
         let case = describe(&self.store, &self.call);
         format!("call {}: {origin}: {reason}\n{case}", self.calls)
     }
+
+    /// The same with what the difference does not need taken away, where the
+    /// store passes refusals 1 and 2.
+    pub fn smaller(mut self: Box<Self>, library: &dyn Library) -> Box<Self> {
+        let parts = |store: &Store, call: &Call| {
+            let edge = Edge {
+                name: String::new(),
+                store: Arc::new(store.clone()),
+                call: call.clone(),
+            };
+            let single = Single {
+                edge,
+                expected: None,
+            };
+            Gate::new(library).single(&[single]).is_err()
+        };
+        if passes_refusals_1_and_2(&self.store) && parts(&self.store, &self.call) {
+            let found = minimise(&self.store, &self.call, &parts, SHRINKING);
+            (self.store, self.call) = found;
+        }
+        self
+    }
 }
 
 pub type Outcome = Result<(), Box<Parted>>;
@@ -60,12 +86,12 @@ pub struct Gate<'a> {
 /// either side.
 pub fn judge(library: &dyn Library) -> Result<String, Box<Parted>> {
     let mut gate = Gate::new(library);
-    gate.all()?;
+    gate.all().map_err(|parted| parted.smaller(library))?;
     let mut report = gate.report();
     for side in [Side::End, Side::Start] {
         let guarded = Guarded { library, side };
         let mut gate = Gate::new(&guarded);
-        gate.guarded()?;
+        gate.guarded().map_err(|parted| parted.smaller(&guarded))?;
         let _ = writeln!(report, "guard pages, {side:?}: {} calls", gate.calls);
     }
     Ok(report)

@@ -4,9 +4,9 @@
 use std::ffi::c_void;
 use std::ptr;
 
-use model::{Answer, Call, Store};
+use model::Call;
 
-use crate::library::{Lent, Library, Request, Told, input, lent, request};
+use crate::library::{Lent, Library, Request, Told};
 
 unsafe extern "C" {
     fn mmap(
@@ -127,39 +127,61 @@ pub struct Guarded<'a> {
     pub side: Side,
 }
 
-impl Guarded<'_> {
-    fn call(&self, buffers: [&mut [u8]; 7], call: &Call) -> (Told, Vec<u8>) {
-        let mut pages = buffers
-            .each_ref()
-            .map(|buffer| Pages::new(buffer, self.side));
-        let input = Pages::read_only(input(call), self.side);
-        let mut out = Pages::new(&call.blank_output(), self.side);
-        let told = self.library.lent(
-            lent(pages.each_mut().map(Pages::bytes_mut)),
-            request(call, input.bytes(), out.bytes_mut()),
-        );
-        for (to, from) in buffers.into_iter().zip(&pages) {
-            to.copy_from_slice(from.bytes());
-        }
-        (told, out.bytes().to_vec())
-    }
-}
-
 impl Library for Guarded<'_> {
     fn supports(&self, call: &Call) -> bool {
         self.library.supports(call)
     }
 
-    fn lent(&self, _: Lent<'_>, _: Request<'_>) -> Told {
-        unreachable!("a guarded library copies the store itself")
-    }
-
-    fn run(&self, store: &mut Store, call: &Call) -> Answer {
-        let (told, output) = self.call(store.buffers_mut().map(Vec::as_mut_slice), call);
-        Answer {
-            number: told.number,
-            count: told.count,
-            output,
+    fn lent(&self, store: Lent<'_>, request: Request<'_>) -> Told {
+        let buffers = store.buffers();
+        let mut pages = buffers
+            .each_ref()
+            .map(|buffer| Pages::new(buffer, self.side));
+        let guarded = Lent::of(pages.each_mut().map(Pages::bytes_mut));
+        let told = match request {
+            Request::Fresh { uuid, reserved } => {
+                let uuid = Pages::read_only(uuid, self.side);
+                let uuid = uuid.bytes();
+                self.library
+                    .lent(guarded, Request::Fresh { uuid, reserved })
+            }
+            Request::Write {
+                object,
+                offset,
+                bytes,
+                seconds,
+                nanoseconds,
+            } => {
+                let bytes = Pages::read_only(bytes, self.side);
+                let request = Request::Write {
+                    object,
+                    offset,
+                    bytes: bytes.bytes(),
+                    seconds,
+                    nanoseconds,
+                };
+                self.library.lent(guarded, request)
+            }
+            Request::Read {
+                object,
+                offset,
+                out,
+            } => {
+                let mut pages = Pages::new(out, self.side);
+                let request = Request::Read {
+                    object,
+                    offset,
+                    out: pages.bytes_mut(),
+                };
+                let told = self.library.lent(guarded, request);
+                out.copy_from_slice(pages.bytes());
+                told
+            }
+            request => self.library.lent(guarded, request),
+        };
+        for (to, from) in buffers.into_iter().zip(&pages) {
+            to.copy_from_slice(from.bytes());
         }
+        told
     }
 }

@@ -69,7 +69,8 @@ pub trait Library {
     /// spares itself the lending.
     fn run(&self, store: &mut Store, call: &Call) -> Answer {
         let mut output = call.blank_output();
-        let told = self.lent(lend(store), request(call, input(call), &mut output));
+        let buffers = store.buffers_mut().map(Vec::as_mut_slice);
+        let told = self.lent(Lent::of(buffers), request(call, &mut output));
         Answer {
             number: told.number,
             count: told.count,
@@ -78,41 +79,38 @@ pub trait Library {
     }
 }
 
-/// The store's buffers, lent.
-pub fn lend(store: &mut Store) -> Lent<'_> {
-    lent(store.buffers_mut().map(Vec::as_mut_slice))
-}
+impl<'a> Lent<'a> {
+    /// Seven buffers in their order.
+    pub fn of(buffers: [&'a mut [u8]; 7]) -> Self {
+        let [image, head, cards, extents, groups, used, retired] = buffers;
+        Self {
+            image,
+            head,
+            cards,
+            extents,
+            groups,
+            used,
+            retired,
+        }
+    }
 
-/// Seven buffers in their order, lent.
-pub fn lent(buffers: [&mut [u8]; 7]) -> Lent<'_> {
-    let [image, head, cards, extents, groups, used, retired] = buffers;
-    Lent {
-        image,
-        head,
-        cards,
-        extents,
-        groups,
-        used,
-        retired,
+    pub fn buffers(self) -> [&'a mut [u8]; 7] {
+        [
+            self.image,
+            self.head,
+            self.cards,
+            self.extents,
+            self.groups,
+            self.used,
+            self.retired,
+        ]
     }
 }
 
-/// The bytes that a call lends to be read: fresh's uuid, a write's bytes.
-pub fn input(call: &Call) -> &[u8] {
-    match call {
-        Call::Fresh { uuid, .. } => uuid,
-        Call::Write { bytes, .. } => bytes,
-        _ => &[],
-    }
-}
-
-/// The call over these buffers: its input and its output.
-pub fn request<'a>(call: &Call, input: &'a [u8], out: &'a mut [u8]) -> Request<'a> {
+/// The call with its buffers lent: its own input, and this output.
+pub fn request<'a>(call: &'a Call, out: &'a mut [u8]) -> Request<'a> {
     match *call {
-        Call::Fresh { reserved, .. } => Request::Fresh {
-            uuid: input,
-            reserved,
-        },
+        Call::Fresh { ref uuid, reserved } => Request::Fresh { uuid, reserved },
         Call::Enter { object, time } => Request::Enter {
             object,
             seconds: time.seconds,
@@ -121,12 +119,12 @@ pub fn request<'a>(call: &Call, input: &'a [u8], out: &'a mut [u8]) -> Request<'
         Call::Write {
             object,
             offset,
+            ref bytes,
             time,
-            ..
         } => Request::Write {
             object,
             offset,
-            bytes: input,
+            bytes,
             seconds: time.seconds,
             nanoseconds: time.nanoseconds,
         },
@@ -151,26 +149,13 @@ pub struct Whole<F>(pub F);
 
 impl<F: Fn(&mut Store, &Call) -> Answer> Library for Whole<F> {
     fn lent(&self, lent: Lent<'_>, request: Request<'_>) -> Told {
-        let mut store = Store {
-            image: lent.image.to_vec(),
-            head: lent.head.to_vec(),
-            cards: lent.cards.to_vec(),
-            extents: lent.extents.to_vec(),
-            groups: lent.groups.to_vec(),
-            used: lent.used.to_vec(),
-            retired: lent.retired.to_vec(),
-        };
+        let buffers = lent.buffers();
+        let mut store = Store::default();
+        for (to, from) in store.buffers_mut().into_iter().zip(&buffers) {
+            *to = from.to_vec();
+        }
         let (call, out) = owned(request);
         let answer = (self.0)(&mut store, &call);
-        let buffers = [
-            lent.image,
-            lent.head,
-            lent.cards,
-            lent.extents,
-            lent.groups,
-            lent.used,
-            lent.retired,
-        ];
         for (to, from) in buffers.into_iter().zip(store.buffers()) {
             to.copy_from_slice(from);
         }

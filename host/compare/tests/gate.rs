@@ -1,11 +1,12 @@
 //! The gate that a library has to pass, held against models that are known to
 //! be right or wrong.
 
+use std::cell::Cell;
 use std::panic;
 use std::process::Command;
-use std::sync::Mutex;
 use std::sync::atomic::{AtomicUsize, Ordering};
-use std::time::Instant;
+use std::sync::{Mutex, Once};
+use std::thread;
 
 use compare::alone::{Alone, alone, calls, sound};
 use compare::gate::{Gate, Parted, judge};
@@ -23,26 +24,41 @@ fn the_model_passes_the_gate() {
 /// The text that the wrong models are made of, with none of them switched on.
 #[test]
 fn the_text_of_the_wrong_models_is_the_models() {
-    let same = Whole(|store: &mut Store, call: &Call| Wrong::NONE.run(store, call));
+    let same = library(Wrong::NONE);
     let mut gate = Gate::new(&same);
     let result = gate.edges().and_then(|()| gate.alone());
     let result = result.and_then(|()| gate.histories(1, 0, 3_000));
     assert!(result.is_ok(), "{}", result.err().unwrap().report());
 }
 
+thread_local! {
+    static QUIET: Cell<bool> = const { Cell::new(false) };
+}
+
 /// Panics of wrong models are answers, and are not printed.
 fn quietly<T>(run: impl FnOnce() -> T) -> T {
-    let hook = panic::take_hook();
-    panic::set_hook(Box::new(|_| {}));
+    static HOOK: Once = Once::new();
+    HOOK.call_once(|| {
+        let hook = panic::take_hook();
+        panic::set_hook(Box::new(move |told| {
+            if !QUIET.get() {
+                hook(told);
+            }
+        }));
+    });
+    QUIET.set(true);
     let result = run();
-    panic::set_hook(hook);
+    QUIET.set(false);
     result
+}
+
+fn library(wrong: Wrong) -> impl Library {
+    Whole(move |store: &mut Store, call: &Call| wrong.run(store, call))
 }
 
 /// The first call of the gate on which a wrong model parts from the model.
 fn found(wrong: Wrong) -> Option<Box<Parted>> {
-    let library = Whole(move |store: &mut Store, call: &Call| wrong.run(store, call));
-    Gate::new(&library).all().err()
+    quietly(|| Gate::new(&library(wrong)).all().err())
 }
 
 /// `cargo test --test gate -- --nocapture wrong` prints the calls that each
@@ -52,36 +68,43 @@ fn every_wrong_model_is_found() {
     let all: Vec<Wrong> = Wrong::all().collect();
     let next = AtomicUsize::new(0);
     let table = Mutex::new(vec![String::new(); all.len()]);
-    quietly(|| {
-        std::thread::scope(|scope| {
-            for _ in 0..2 {
-                scope.spawn(|| {
-                    while let Some(wrong) = all.get(next.fetch_add(1, Ordering::Relaxed)) {
-                        let started = Instant::now();
-                        let line = match found(*wrong) {
-                            Some(parted) => format!(
-                                "{:>6} calls, {:>5} ms  {}  ({})",
-                                parted.calls,
-                                started.elapsed().as_millis(),
-                                wrong.name(),
-                                parted.origin
-                            ),
-                            None => format!("not found: {}", wrong.name()),
-                        };
-                        let at = all.iter().position(|listed| listed == wrong);
-                        table.lock().unwrap()[at.unwrap()] = line;
-                    }
-                });
-            }
-        });
+    let search = || {
+        loop {
+            let at = next.fetch_add(1, Ordering::Relaxed);
+            let Some(&wrong) = all.get(at) else { break };
+            let name = wrong.name();
+            table.lock().unwrap()[at] = match found(wrong) {
+                Some(parted) => format!("{:>6} calls: {name} ({})", parted.calls, parted.origin),
+                None => format!("not found: {name}"),
+            };
+        }
+    };
+    thread::scope(|scope| {
+        scope.spawn(search);
+        scope.spawn(search);
     });
     let table = table.into_inner().unwrap();
     println!("{}", table.join("\n"));
-    let missed: Vec<_> = table
-        .iter()
-        .filter(|line| line.starts_with("not found"))
-        .collect();
+    let missed = table.iter().filter(|line| line.starts_with("not found"));
+    let missed: Vec<&String> = missed.collect();
     assert!(missed.is_empty(), "{missed:#?}");
+}
+
+/// A failing case is made small and told in words.
+#[test]
+fn what_a_library_does_wrong_is_told() {
+    for (name, blocks) in [
+        ("a full last block not kept", 60),
+        ("slip: a block retired by the same call handed out", 64),
+        ("used map that does not fit", 1),
+        ("image of no block", 0),
+    ] {
+        let wrong = library(Wrong::named(name).expect("listed"));
+        let parted = quietly(|| judge(&wrong)).expect_err("a wrong model");
+        let report = parted.report();
+        assert!(report.contains("call: "), "{report}");
+        assert!(parted.store.image.len() <= blocks * 4_096, "{report}");
+    }
 }
 
 /// With its word left out of the model, every call on such a store gets past
