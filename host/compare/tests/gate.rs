@@ -95,7 +95,7 @@ fn every_wrong_model_is_found() {
 fn what_a_library_does_wrong_is_told() {
     for (name, blocks) in [
         ("a full last block not kept", 60),
-        ("slip: a block retired by the same call handed out", 64),
+        ("hollow: a read that always gives zeros", 12),
         ("used map that does not fit", 1),
         ("image of no block", 0),
     ] {
