@@ -274,22 +274,22 @@ impl<'a> Gate<'a> {
         Ok(())
     }
 
-    /// Histories from `first` on until the library was asked so many calls.
+    /// Histories from `first` on, of so many calls together: those that the
+    /// library does not have are counted too.
     pub fn histories(&mut self, seed: u64, first: u64, calls: u64) -> Outcome {
-        let enough = self.calls + calls;
-        let mut number = first;
-        while self.calls < enough {
-            self.history(seed, number)?;
+        let (mut made, mut number) = (0, first);
+        while made < calls {
+            made += self.history(seed, number)?;
             number += 1;
         }
         Ok(())
     }
 
-    /// One history, to its end.
-    pub fn history(&mut self, seed: u64, number: u64) -> Outcome {
+    /// One history, to its end: the number of its calls.
+    pub fn history(&mut self, seed: u64, number: u64) -> Result<u64, Box<Parted>> {
         let mut walk = Walk::rough(seed, number);
         let mut lent = walk.store.clone();
-        let mut last = 0;
+        let (mut last, mut made) = (0, 0);
         while let Some(event) = walk.event() {
             let call = match event {
                 Event::Call(call) => call,
@@ -299,6 +299,7 @@ impl<'a> Gate<'a> {
                 }
             };
             last = walk.step;
+            made += 1;
             let used_before = walk.store.used.clone();
             let answer = model::run(&mut walk.store, &call);
             walk.answered(&answer);
@@ -319,7 +320,10 @@ impl<'a> Gate<'a> {
                 return Err(self.rebuilt(seed, number, walk.step, reason));
             }
         }
-        same_image(&walk.store, &lent).map_err(|reason| self.rebuilt(seed, number, last, reason))
+        match same_image(&walk.store, &lent) {
+            Ok(()) => Ok(made),
+            Err(reason) => Err(self.rebuilt(seed, number, last, reason)),
+        }
     }
 
     /// The failure with the store as it was before the step.

@@ -184,7 +184,7 @@ fn a_library_without_some_calls_is_judged_on_the_others() {
     }
     let four = Four(Wrong::NONE);
     let mut gate = Gate::new(&four);
-    let result = gate.histories(2, 0, 600).and_then(|()| gate.wide());
+    let result = gate.histories(2, 0, 4_000).and_then(|()| gate.wide());
     assert!(result.is_ok(), "{}", result.err().unwrap().report());
     assert!(
         gate.answers
@@ -197,7 +197,7 @@ fn a_library_without_some_calls_is_judged_on_the_others() {
     ] {
         let wrong = Four(Wrong::named(name).expect("listed"));
         let mut gate = Gate::new(&wrong);
-        assert!(gate.histories(2, 0, 600).is_err(), "{name}");
+        assert!(gate.histories(2, 0, 4_000).is_err(), "{name}");
     }
 }
 
