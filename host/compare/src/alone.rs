@@ -149,6 +149,19 @@ pub fn sound(cut: bool) -> Store {
     store
 }
 
+/// Stores that break no word, on which all the calls are accepted: as above,
+/// and with a file whose last block is the device's.
+pub fn sounds() -> [Store; 3] {
+    let mut last = sound(false);
+    let mut volume = Volume::decode(&last);
+    let extent = volume.extents.last_mut().expect("file E's");
+    extent.physical = BLOCKS - extent.count;
+    volume.used[extent.physical as usize..].fill(true);
+    seal(&mut volume, &mut last.image);
+    volume.encode(&mut last);
+    [sound(false), sound(true), last]
+}
+
 /// Zeros past each file's end, and the checksums of all units.
 pub fn seal(volume: &mut Volume, image: &mut [u8]) {
     for card in volume.cards.clone() {
@@ -509,6 +522,14 @@ fn extents(list: &mut List) {
             let physical = physical + RESERVED;
             list.volume(word, format!("{at} {physical}"), |v| {
                 moved(&mut v.extents[at], physical)
+            });
+        }
+    }
+    for at in [0, 4, 7] {
+        let word = "an extent's count read as 16 bits";
+        for more in [1 << 16, 1 << 31] {
+            list.volume(word, format!("{at} with {more} more"), |v| {
+                v.extents[at].count += more
             });
         }
     }

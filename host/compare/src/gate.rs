@@ -10,7 +10,7 @@ use std::time::Duration;
 
 use model::{Answer, Call, Store, passes_refusals_1_and_2};
 
-use crate::alone::{alone, calls, sound};
+use crate::alone::{alone, calls, sounds};
 use crate::broken::broken_stores;
 use crate::edges::{Edge, edges, large, pairs, wide};
 use crate::guard::{Guarded, Side};
@@ -378,7 +378,7 @@ fn prepared(edges: Vec<Edge>) -> Vec<Single> {
 /// The sound stores and those that break a word, met by every call; and the
 /// broken stores that are recorded.
 fn met_by_every_call() -> Vec<Edge> {
-    let sound = [false, true].map(|cut| ("a sound store".into(), Arc::new(sound(cut))));
+    let sound = sounds().map(|store| ("a sound store".into(), Arc::new(store)));
     let alone = alone()
         .into_iter()
         .map(|broken| (broken.name, Arc::new(broken.store)));

@@ -8,7 +8,7 @@ use std::sync::atomic::{AtomicUsize, Ordering};
 use std::sync::{Mutex, Once};
 use std::thread;
 
-use compare::alone::{Alone, alone, calls, sound};
+use compare::alone::{Alone, alone, calls, sounds};
 use compare::gate::{Gate, Parted, judge};
 use compare::guard::{Pages, Side};
 use compare::library::{Lent, Library, Request, Told, Whole};
@@ -111,9 +111,9 @@ fn what_a_library_does_wrong_is_told() {
 /// refusals 1 and 2: no other word of them is broken.
 #[test]
 fn each_store_breaks_its_word_alone() {
-    for cut in [false, true] {
+    for store in sounds() {
         for call in calls() {
-            let number = model::run(&mut sound(cut), &call).number;
+            let number = model::run(&mut store.clone(), &call).number;
             assert_eq!(number, 0, "{}", call.name());
         }
     }
