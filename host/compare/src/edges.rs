@@ -89,6 +89,7 @@ pub fn edges() -> Vec<Edge> {
     lengths(&mut all);
     nothing(&mut all);
     books(&mut all);
+    tails(&mut all);
     holes(&mut all);
     neighbours(&mut all);
     shared(&mut all);
@@ -353,6 +354,18 @@ fn books(all: &mut Vec<Edge>) {
             ] {
                 all.push(edge("nearly full books", &other, call));
             }
+        }
+    }
+}
+
+/// Writes and grows behind old tails, partial and whole.
+fn tails(all: &mut Vec<Edge>) {
+    for size in [1, 4_096, 65_535, 65_536, 65_537, 70_000] {
+        let calls = [enter(7), write(7, 0, size)];
+        let store = after(Store::blank(80, 1, 8, 2), 1, &calls);
+        for offset in [size as u64, 65_535, 65_536, 131_071, 131_072, 200_000] {
+            all.push(edge("a write behind a tail", &store, write(7, offset, 1)));
+            all.push(edge("a grow behind a tail", &store, grow(7, offset)));
         }
     }
 }

@@ -1,7 +1,7 @@
 //! The one interpreter of a history's steps: it holds the store that the
 //! history runs on and makes every change that is not a call.
 
-use model::{Answer, Call, Store, passes_refusals_1_and_2};
+use model::{Answer, Call, Store, Time, passes_refusals_1_and_2};
 use random::Rng;
 
 use crate::damage::{damage, split_all};
@@ -107,6 +107,10 @@ impl Walk {
             self.step += 1;
             return Some(Event::Changed(change));
         }
+        if let Some(call) = self.short_call() {
+            self.step += 1;
+            return Some(Event::Call(call));
+        }
         let undo = self.rough.as_mut().and_then(|rough| rough.undo.as_mut());
         let (store, left) = match undo {
             Some((store, left)) => (&*store, Some(left)),
@@ -183,6 +187,33 @@ impl Walk {
             return Some(Change::whole(Some("bytes or lengths, refused by 1 or 2")));
         }
         Some(Change::whole(Some("bytes or lengths")))
+    }
+
+    /// One of the calls that a history seldom makes, on a store that refusal 1
+    /// or 2 meets.
+    fn short_call(&mut self) -> Option<Call> {
+        let Rough { rng, undo, .. } = self.rough.as_mut()?;
+        let (_, left) = undo.as_mut()?;
+        if !rng.percent(40) {
+            return None;
+        }
+        *left -= 1;
+        let time = Time {
+            seconds: rng.below(1 << 40),
+            nanoseconds: rng.below(1_000_000_000),
+        };
+        Some(match rng.below(4) {
+            0 => Call::Fresh {
+                uuid: vec![rng.next_u64() as u8; rng.pick(&[15, 16, 16, 16, 17])],
+                reserved: rng.below(self.history.blocks() + 2),
+            },
+            1 => Call::Enter {
+                object: rng.pick(&[0, 2, 7, 9, 1 << 40, u64::MAX]),
+                time,
+            },
+            2 => Call::Settle,
+            _ => Call::Fill,
+        })
     }
 
     /// Take the standing change back, if there is one.
