@@ -2,22 +2,7 @@
 
 use oracle::parts;
 use probe::{Call, GroupRecord};
-
-/// xorshift64*: seeded, so that a failing case comes again.
-struct Random(u64);
-
-impl Random {
-    fn next(&mut self) -> u64 {
-        self.0 ^= self.0 >> 12;
-        self.0 ^= self.0 << 25;
-        self.0 ^= self.0 >> 27;
-        self.0.wrapping_mul(0x2545_f491_4f6c_dd1d)
-    }
-
-    fn below(&mut self, bound: u64) -> u64 {
-        self.next() % bound
-    }
-}
+use random::Rng;
 
 /// Both sides on the units of one call, up to the first that is refused.
 fn same_blocks(used: &[u8], blocks: u64, hint: u64, wanted: &[u64]) {
@@ -77,7 +62,7 @@ fn allocate_data_on_random_maps() {
     if oracle::skipped("allocate_data on random maps") {
         return;
     }
-    let mut random = Random(2026);
+    let mut random = Rng::new(2026);
     for round in 0..6_000 {
         let most = [64, 200, 20_000, 65_536][round % 4];
         let blocks = 1 + random.below(most);
@@ -159,14 +144,14 @@ fn group_functions_on_random_groups() {
     if oracle::skipped("the group functions") {
         return;
     }
-    let mut random = Random(7);
+    let mut random = Rng::new(7);
     for _ in 0..300 {
         let mut ours: GroupRecord = [0; 1073];
         ours[8] = 4;
         let mut rust: parts::GroupBytes = [0; 1056];
         for _ in 0..random.below(40) {
             let slot = random.below(256) as usize;
-            let crc = (random.below(4) != 0).then(|| random.next() as u32);
+            let crc = (random.below(4) != 0).then(|| random.next_u64() as u32);
             parts::set_checksum_slot(&mut rust, slot, crc);
             probe::set_checksum_slot(&mut ours, slot, crc);
             assert_eq!(ours[17..], rust);

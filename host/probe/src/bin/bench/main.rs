@@ -17,15 +17,8 @@ const SHORT_ROUNDS: u32 = 200;
 const SHORT_SPAN: Duration = Duration::from_micros(500);
 
 fn filled(len: usize) -> Vec<u8> {
-    let mut x = 0x9e37_79b9_7f4a_7c15u64;
-    (0..len)
-        .map(|_| {
-            x ^= x << 13;
-            x ^= x >> 7;
-            x ^= x << 17;
-            x as u8
-        })
-        .collect()
+    let mut random = random::Rng::new(1);
+    (0..len).map(|_| random.next_u64() as u8).collect()
 }
 
 fn main() {

@@ -1,4 +1,4 @@
-//! A small seeded generator (SplitMix64): the same seed gives the same calls
+//! A small seeded generator (SplitMix64): the same seed gives the same numbers
 //! on every machine.
 
 #[derive(Clone, Debug)]
