@@ -95,7 +95,7 @@ fn crc32c_around_its_lengths() {
     let mut random = Random(528);
     let bytes: Vec<u8> = (0..70_001).map(|_| random.next() as u8).collect();
     // Where the tables give way to the window, where the window is full, and about whole rooms of it.
-    let edges = [0, 16, 528, 1024, 4096, 4624, 8192, 65_536, 70_000];
+    let edges = [0, 16, 528, 1024, 1280, 4096, 4624, 8192, 65_536, 70_000];
     for len in edges
         .into_iter()
         .flat_map(|n: usize| n.saturating_sub(2)..n + 2)
