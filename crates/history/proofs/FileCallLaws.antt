@@ -37,9 +37,9 @@ use Rattle.rules.specs.Call.Call.{grow, look}
 use Rattle.rules.specs.Demand.{neverNumbers}
 use Rattle.rules.proofs.ListLaws.{if-cases, maybe-cases, each-none, each-more}
 use Rattle.rules.proofs.PassLaws.{Passes}
-use Rattle.rules.proofs.OutcomeLaws.{firstOf-cases, never-zero, accepted-cases, through, store-passes}
+use Rattle.rules.proofs.OutcomeLaws.{firstOf-cases, never-zero, accepted-cases, through, store-passes, goes-on}
 use Rattle.rules.proofs.EnterLaws.{TimeRight, time-right}
-use Rattle.history.proofs.HistoryLaws.{Never, goes-on}
+use Rattle.history.proofs.HistoryLaws.{Never}
 
 -- ---- accepted calls
 

@@ -25,7 +25,7 @@ use Rattle.rules.specs.Demand.AllInRange.{none as no-call, one as one-call}
 use Rattle.rules.proofs.ListLaws.{clash, if-true, if-false, Each, each-none, each-more}
 use Rattle.rules.proofs.Refused.{Numbered, Unchanged, lentOut, call-cases}
 use Rattle.rules.proofs.PassLaws.{Passes}
-use Rattle.rules.proofs.OutcomeLaws.{firstOf-cases}
+use Rattle.rules.proofs.OutcomeLaws.{firstOf-cases, goes-on}
 use Rattle.rules.proofs.BytesKept.{bytes-kept}
 use Rattle.history.proofs.Induction.{afterAll, stateAfter, bytes-after, history}
 
@@ -110,12 +110,6 @@ module _ (Inv : List File → ℕ → Store → Type 0)
 -- what becomes of the call is none of "2, 9 to 12 and 14"
 abbrev pub Never : Store → List ℕ → Outcome → Type 0
 Never s out o = member (result s out o .number) neverNumbers ≡ false
-
--- a store that passes refusals 1 and 2 lets every call go on
-pub goes-on : (s : Store) (next : Outcome) → Passes s → firstOf (storeCases s) next ≡ next
-unfolding storeCases
-goes-on s next p =
-    firstOf-cases (λ o. o ≡ next) next (each-more (λ h. absurd (clash (p .lengths) h)) (each-more (λ h. absurd (clash (p .rules) h)) each-none)) (λ n. refl)
 
 -- fresh, on any store
 pub never-fresh : (uuid : List ℕ) (reserved : ℕ) (s : Store) → member (call (fresh uuid reserved) s .number) neverNumbers ≡ false

@@ -9,7 +9,7 @@ use Rattle.rules.specs.Integrity.{storeCases}
 use Rattle.rules.specs.Store.{Store}
 use Rattle.rules.specs.Refusal.{Refusal, Case, Outcome, numberOf, firstOf, result}
 use Rattle.rules.specs.Refusal.Outcome.{refuse}
-use Rattle.rules.proofs.ListLaws.{if-cases, Each, each-none, each-more, each-any}
+use Rattle.rules.proofs.ListLaws.{clash, if-cases, Each, each-none, each-more, each-any}
 use Rattle.rules.proofs.PassLaws.{Passes}
 use Rattle.rules.proofs.Refused.{Numbered, numbered}
 
@@ -51,3 +51,9 @@ through s out cases next = accepted-cases s out (λ o. Through cases o next) cas
 pub store-passes : (s : Store) → NoneHolds (storeCases s) → Passes s
 unfolding storeCases
 store-passes s n = record { lengths = n .0; rules = n .1 .0 }
+
+-- a store that passes refusals 1 and 2 lets every call go on
+pub goes-on : (s : Store) (next : Outcome) → Passes s → firstOf (storeCases s) next ≡ next
+unfolding storeCases
+goes-on s next p =
+    firstOf-cases (λ o. o ≡ next) next (each-more (λ h. absurd (clash (p .lengths) h)) (each-more (λ h. absurd (clash (p .rules) h)) each-none)) (λ n. refl)

@@ -82,6 +82,15 @@ fn count_card(head: &mut [u8])
     format::head::encode_head(head, g);
 }
 
+// The number of cards that a head counts.
+pub fn card_count(head: &[u8]) -> usize
+    requires { ⌜ length (now head) ≡ headBytes ⌝ }
+    ensures { λ r. ⌜ r ≡ decodeHead (now (head .entry)) .cards ⌝ }
+{
+    let h = format::head::decode_head(head);
+    h.cards as usize
+}
+
 // A card of size 0 with no blocks put at its place into a book of `n`, and the head that counts it.
 pub fn enter_card(
     head: &mut [u8],

@@ -8,3 +8,124 @@ pub mod enter;
 pub mod fill;
 pub mod fresh;
 pub mod settle;
+
+ghost use mathlib.Core.Path.{_≡_};
+ghost use Rattle.rules.specs.Store.{lent};
+ghost use Rattle.rules.specs.Call.{call};
+ghost use Rattle.rules.specs.Call.Look.{fill};
+ghost use Rattle.rules.specs.Call.Call.{fresh, enter, settle, look};
+ghost use Rattle.volume.specs.Call.{gave};
+use format::sizes::BLOCK_BYTES;
+
+// A call's answer: 0 and a count, or the number of its refusal and 0.
+#[repr(C)]
+pub struct Answer {
+    pub number: u32,
+    pub count: u64,
+}
+
+// The used blocks of all, per mille. Nothing changes.
+#[no_mangle]
+pub extern "C" fn sangueko_fill(
+    image: &[u8],
+    head: &[u8],
+    cards: &[u8],
+    extents: &[u8],
+    groups: &[u8],
+    used: &[u8],
+    retired: &[u8],
+) -> Answer
+    ensures { λ r. ⌜ gave (r .number) (r .count) (lent (now (image .entry)) (now (head .entry)) (now (cards .entry)) (now (extents .entry)) (now (groups .entry)) (now (used .entry)) (now (retired .entry))) ≡ call (look fill) (lent (now (image .entry)) (now (head .entry)) (now (cards .entry)) (now (extents .entry)) (now (groups .entry)) (now (used .entry)) (now (retired .entry))) ⌝ }
+{
+    let number = intake::refused(image, head, cards, extents, groups, used, retired);
+    if number != 0 {
+        return Answer { number, count: 0 };
+    }
+    let count = fill::used_per_mille(used, image.len() / BLOCK_BYTES);
+    Answer { number: 0, count }
+}
+
+// The retired blocks let go: both bits of each are cleared. The count is their number.
+#[no_mangle]
+pub extern "C" fn sangueko_settle(
+    image: &[u8],
+    head: &[u8],
+    cards: &[u8],
+    extents: &[u8],
+    groups: &[u8],
+    used: &mut [u8],
+    retired: &mut [u8],
+) -> Answer
+    ensures { λ r. ⌜ gave (r .number) (r .count) (lent (now (image .entry)) (now (head .entry)) (now (cards .entry)) (now (extents .entry)) (now (groups .entry)) (now (used .exit)) (now (retired .exit))) ≡ call settle (lent (now (image .entry)) (now (head .entry)) (now (cards .entry)) (now (extents .entry)) (now (groups .entry)) (now (used .entry)) (now (retired .entry))) ⌝ }
+{
+    let number = intake::refused(image, head, cards, extents, groups, used, retired);
+    if number != 0 {
+        return Answer { number, count: 0 };
+    }
+    let count = settle::settle_maps(used, retired, image.len() / BLOCK_BYTES);
+    Answer { number: 0, count }
+}
+
+// A new file: a card of size 0 with no blocks and the lent time.
+#[no_mangle]
+pub extern "C" fn sangueko_enter(
+    image: &[u8],
+    head: &mut [u8],
+    cards: &mut [u8],
+    extents: &[u8],
+    groups: &[u8],
+    used: &[u8],
+    retired: &[u8],
+    object: u64,
+    seconds: u64,
+    nanoseconds: u64,
+) -> Answer
+    ensures { λ r. ⌜ gave (r .number) (r .count) (lent (now (image .entry)) (now (head .exit)) (now (cards .exit)) (now (extents .entry)) (now (groups .entry)) (now (used .entry)) (now (retired .entry))) ≡ call (enter object (record { seconds = seconds; nanoseconds = nanoseconds })) (lent (now (image .entry)) (now (head .entry)) (now (cards .entry)) (now (extents .entry)) (now (groups .entry)) (now (used .entry)) (now (retired .entry))) ⌝ }
+{
+    let number = intake::refused(image, head, cards, extents, groups, used, retired);
+    if number != 0 {
+        return Answer { number, count: 0 };
+    }
+    let n = enter::card_count(head);
+    let number = enter::enter_refused(cards, n, object, seconds, nanoseconds);
+    if number != 0 {
+        return Answer { number, count: 0 };
+    }
+    enter::enter_card(head, cards, n, object, seconds, nanoseconds);
+    Answer { number: 0, count: 0 }
+}
+
+// A fresh store in the lent buffers, whatever they hold: no record, the first blocks reserved and used, none retired. The image stays.
+#[no_mangle]
+pub extern "C" fn sangueko_fresh(
+    image: &[u8],
+    head: &mut [u8],
+    cards: &mut [u8],
+    extents: &mut [u8],
+    groups: &mut [u8],
+    used: &mut [u8],
+    retired: &mut [u8],
+    uuid: &[u8],
+    reserved: u64,
+) -> Answer
+    ensures { λ r. ⌜ gave (r .number) (r .count) (lent (now (image .entry)) (now (head .exit)) (now (cards .exit)) (now (extents .exit)) (now (groups .exit)) (now (used .exit)) (now (retired .exit))) ≡ call (fresh (now (uuid .entry)) reserved) (lent (now (image .entry)) (now (head .entry)) (now (cards .entry)) (now (extents .entry)) (now (groups .entry)) (now (used .entry)) (now (retired .entry))) ⌝ }
+{
+    if intake::lengths::fresh_length_wrong(
+        image,
+        head,
+        cards,
+        extents,
+        groups,
+        used,
+        retired,
+        uuid,
+        reserved,
+    ) {
+        return Answer { number: 1, count: 0 };
+    }
+    let blocks = image.len() / BLOCK_BYTES;
+    fresh::fresh_books(cards, extents, groups);
+    fresh::fresh_maps(used, retired, blocks, reserved as usize);
+    fresh::fresh_head(head, uuid, blocks as u64, reserved);
+    Answer { number: 0, count: 0 }
+}

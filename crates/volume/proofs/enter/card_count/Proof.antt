@@ -1,0 +1,14 @@
+-- `volume::enter::card_count` meets its contract.
+-- Assumes nothing.
+use borrow.Author.Needs.{needs}
+use Rattle.volume.proofs.enter.card_count.Statement.{statement}
+use Rattle.volume.proofs.enter.card_count.Tie as tie
+
+decode-head-requires : tie.Need-decode-head-requires
+decode-head-requires c κs = search needs
+
+returns : tie.Need-returns
+returns c = search needs
+
+pub card-count-spec : {M : Type 1} → statement M
+card-count-spec = tie.close (tie.spec decode-head-requires returns)

@@ -1,0 +1,82 @@
+-- `volume::sangueko_fresh` meets its contract.
+-- Assumes nothing.
+use borrow.Author.Needs.{needs}
+use Rattle.volume.proofs.sangueko_fresh.Statement.{statement}
+use Rattle.volume.proofs.sangueko_fresh.Tie as tie
+
+fresh-length-wrong-requires : tie.Need-fresh-length-wrong-requires
+fresh-length-wrong-requires c κs = search needs
+
+same-length : tie.Need-same-length
+same-length c = search needs
+
+same-length-2 : tie.Need-same-length-2
+same-length-2 c = search needs
+
+same-length-3 : tie.Need-same-length-3
+same-length-3 c = search needs
+
+same-length-4 : tie.Need-same-length-4
+same-length-4 c = search needs
+
+same-length-5 : tie.Need-same-length-5
+same-length-5 c = search needs
+
+same-length-6 : tie.Need-same-length-6
+same-length-6 c = search needs
+
+returns : tie.Need-returns
+returns c = search needs
+
+fresh-books-requires : tie.Need-fresh-books-requires
+fresh-books-requires c κs = search needs
+
+fresh-maps-requires : tie.Need-fresh-maps-requires
+fresh-maps-requires c κs = search needs
+
+fresh-head-requires : tie.Need-fresh-head-requires
+fresh-head-requires c κs = search needs
+
+same-length-7 : tie.Need-same-length-7
+same-length-7 c = search needs
+
+same-length-8 : tie.Need-same-length-8
+same-length-8 c = search needs
+
+same-length-9 : tie.Need-same-length-9
+same-length-9 c = search needs
+
+same-length-10 : tie.Need-same-length-10
+same-length-10 c = search needs
+
+same-length-11 : tie.Need-same-length-11
+same-length-11 c = search needs
+
+same-length-12 : tie.Need-same-length-12
+same-length-12 c = search needs
+
+returns-2 : tie.Need-returns-2
+returns-2 c = search needs
+
+pub sangueko-fresh-spec : {M : Type 1} → statement M
+sangueko-fresh-spec =
+    tie.close
+    (tie.spec
+    fresh-length-wrong-requires
+    same-length
+    same-length-2
+    same-length-3
+    same-length-4
+    same-length-5
+    same-length-6
+    returns
+    fresh-books-requires
+    fresh-maps-requires
+    fresh-head-requires
+    same-length-7
+    same-length-8
+    same-length-9
+    same-length-10
+    same-length-11
+    same-length-12
+    returns-2)
