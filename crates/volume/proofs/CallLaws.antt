@@ -3,23 +3,23 @@
 use mathlib.Core.Path.{_≡_, refl, sym, ap, ap₂, _∙_}
 use mathlib.Core.Bool.{Bool, true, false, not, _&&_}
 use mathlib.Core.List.{List, [], _∷_}
-use Prim.Native.Nat.{ℕ, suc, _+_, _*_, _/_, _^_, _≤_, _<_}
+use Prim.Native.Nat.{ℕ, suc, _*_, _/_, _≤_, _<_}
 use native.Mathlib.Omega.{arith}
 use lib.Dec.{ltb, eqb, leb}
 use borrow.Author.Tests.{eqb-true, leb-true, leb-false, not-false}
 use lib.ListN.{length, replicate}
 use Rattle.rules.specs.Lists.{if_then_else_, given, range, count, find, insert, ascending}
 use Rattle.rules.specs.Sizes.{blockBytes, mostBlocks}
-use Rattle.rules.specs.Bytes.{Bytes, bitSet}
+use Rattle.rules.specs.Bytes.{bitSet}
 use Rattle.rules.specs.Time.{Time}
 use Rattle.rules.specs.Head.{Head, headBytes, uuidBytes, decodeHead, encodeHead}
-use Rattle.rules.specs.Card.{Card, cardBytes, decodeCard, encodeCard, cardBefore}
+use Rattle.rules.specs.Card.{cardBytes, decodeCard, encodeCard, cardBefore}
 use Rattle.rules.specs.Extent.{extentBytes, decodeExtent, extentBefore}
 use Rattle.rules.specs.Group.{groupBytes, decodeGroup, groupBefore}
 use Rattle.rules.specs.Map.{mapBytes, encodeMap}
 use Rattle.rules.specs.Book.{decodeBook, decodeBooks, encodeBook, bookPlaces}
-use Rattle.rules.specs.Store.{Store, lent, StoreBytes, Volume, lentBooks, decode, decodeWith, headOf, encodeInto, imageBlocks, cardOf}
-use Rattle.rules.specs.Refusal.{Refusal, Case, Outcome, Result, numberOf, firstOf, result}
+use Rattle.rules.specs.Store.{Store, lent, StoreBytes, decode, decodeWith, headOf, encodeInto, imageBlocks, cardOf}
+use Rattle.rules.specs.Refusal.{Outcome, numberOf, firstOf, result}
 use Rattle.rules.specs.Refusal.Outcome.{refuse, accept}
 use Rattle.rules.specs.Refusal.Refusal.{wrong-length, broken-rule, card-exists, bad-time, no-card-place}
 use Rattle.rules.specs.Answers.{outcomeNumber}
@@ -33,8 +33,7 @@ use Rattle.rules.specs.Call.{call}
 use Rattle.rules.specs.Call.Look.{fill}
 use Rattle.rules.specs.Call.Call.{fresh, enter, settle, look}
 use Rattle.rules.proofs.ListLaws.{test-cases, if-true, if-false, length-insert}
-use Rattle.rules.proofs.Refused.{Numbered, numbered}
-use Rattle.rules.proofs.PassLaws.{buffers-sized, Passed, each-passed, Passes, BuffersSized, HeadRoom, Room, passes-sized, passes-head, passes-room, passes-whole, lawful-decode, room-decode}
+use Rattle.rules.proofs.PassLaws.{buffers-sized, Passed, each-passed, Passes, BuffersSized, passes-sized, passes-head, passes-room, passes-whole, lawful-decode, room-decode}
 use Rattle.rules.proofs.OutcomeLaws.{goes-on}
 use Rattle.rules.proofs.BookLaws.{length-decodeBook}
 use Rattle.rules.proofs.EnterLaws.{TimeRight, time-right}
@@ -292,3 +291,32 @@ module _ (object : ℕ) (time : Time) (s : Store) where
             (λ o k. k ≡ 0 → gave 0 0 (lent (s .image) head cards (s .extents) (s .groups) (s .used) (s .retired)) ≡ result s [] o)
             (λ q. absurd (omega (arith, q))) (λ q. absurd (omega (arith, q))) (λ q. absurd (omega (arith, q))) (λ x y z q. ap (gave 0 0) (sym (enter-store head cards h c))) e
             ∙ sym enter-goes
+
+-- the head is 28 bytes
+pub head-width : (s : Store) → Passes s → length (s .head) ≡ headBytes
+head-width s p = passes-head s p
+
+-- the cards that were counted have their places
+pub cards-counted : (s : Store) → Passes s → (m : ℕ) → m ≡ decodeHead (s .head) .cards → cardBytes * m ≤ length (s .cards)
+cards-counted s p m q = rw q (cards-there 0 (record { seconds = 0; nanoseconds = 0 }) s p)
+
+module _ (object : ℕ) (time : Time) (s : Store) (p : Passes s) (m : ℕ) (q : m ≡ decodeHead (s .head) .cards) (n : ℕ)
+    (e : n ≡ enterNumber (decodeBook decodeCard cardBytes m (s .cards)) (bookPlaces cardBytes (s .cards)) object time) where
+  -- the number that the tests found, with the number of cards that the head counts
+  found : n ≡ enterNumber (decodeBook decodeCard cardBytes (decodeHead (s .head) .cards) (s .cards)) (bookPlaces cardBytes (s .cards)) object time
+  found = rw q at e
+
+  -- refusals 4, 7 and 8 for the cards that were counted
+  pub enter-refused′ : (n ≡ 0 → ⊥) → gave n 0 s ≡ call (enter object time) s
+  enter-refused′ z = enter-refused object time s p n found z
+
+  module _ (z : n ≡ 0) (b : StoreBytes s) where
+    -- what the inner call asks for
+    pub enter-ready′ : EnterReady (s .head) (s .cards) m time
+    enter-ready′ = rw q (enter-ready object time s p (sym found ∙ z) b)
+
+    -- what enter gives
+    pub enter-done′ : (head cards : List ℕ) → head ≡ encodeHead (oneCardMore (decodeHead (s .head)))
+        → cards ≡ encodeBook encodeCard (length (s .cards)) (insert cardBefore (newCard object time) (decodeBook decodeCard cardBytes m (s .cards)))
+        → gave 0 0 (lent (s .image) head cards (s .extents) (s .groups) (s .used) (s .retired)) ≡ call (enter object time) s
+    enter-done′ head cards h c = enter-done object time s p (sym found ∙ z) b head cards h (rw q at c)

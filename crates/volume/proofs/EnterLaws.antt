@@ -1,31 +1,28 @@
 -- Laws of the inner call enter: its tests by their numbers, and the card book and the head with one card more.
 -- Assumes nothing.
 use mathlib.Core.Path.{_≡_, refl, sym, ap, ap₂, _∙_}
-use mathlib.Core.Bool.{Bool, true, false, _||_}
+use mathlib.Core.Bool.{Bool, true, false}
 use mathlib.Core.List.{List, [], _∷_, _++_, append-nil}
-use mathlib.Core.Option.{Option, none, some}
 use Prim.Native.Nat.{ℕ, suc, _+_, _-_, _*_, _/_, _^_, _≤_, _<_}
-use native.Mathlib.Nat.{zero-add}
 use native.Mathlib.Omega.{arith}
 use borrow.Author.Tests.{lt-ltb, le-ltb, le-leb, lt-leb}
-use lib.Dec.{eqb, ltb, leb}
+use lib.Dec.{leb}
 use lib.ListN.{length, take, drop}
 use lib.Seq.{take-all}
 use Rattle.rules.specs.Lists.{if_then_else_, given, all, find, insert, ascending}
 use Rattle.rules.specs.Sizes.{mostSeconds, nanosecondsBound}
-use Rattle.rules.specs.Bytes.{Bytes, part, patch, pieces}
+use Rattle.rules.specs.Bytes.{Bytes, patch, pieces}
 use Rattle.rules.specs.Time.{Time}
-use Rattle.rules.specs.Head.{Head, headBytes, decodeHead, encodeHead}
+use Rattle.rules.specs.Head.{Head, decodeHead, encodeHead}
 use Rattle.rules.specs.Card.{Card, cardBytes, decodeCard, encodeCard, cardSpareZero, cardBefore}
 use Rattle.rules.specs.Book.{decodeBook, encodeBook, bookPlaces}
 use Rattle.rules.specs.Arguments.{timeWrong}
-use Rattle.rules.proofs.ListLaws.{if-true, if-false, given-some, or-right}
-use Rattle.rules.proofs.ByteLaws.{bytes-patch}
+use Rattle.rules.proofs.ListLaws.{if-true, if-false}
 use Rattle.rules.proofs.BookLaws.{Whole, length-decodeBook, decodeBook-one, decodeBook-none}
 use Rattle.rules.proofs.CardLaws.{encode-decodeCard, decode-encodeCard, length-encodeCard, spare-encodeCard}
 use Rattle.rules.proofs.CardLaws as cards
 use Rattle.words.proofs.NumberLaws.{patch-whole}
-use Rattle.book.specs.Places.{foundIn, placeOf, leading, cardIs, cardUnder, FoundFirst, Spliced}
+use Rattle.book.specs.Places.{foundIn, leading, cardIs, cardUnder, FoundFirst, Spliced}
 use Rattle.book.specs.declared.Found.{Found}
 use Rattle.book.specs.declared.Found.the-variants.{At, Nothing}
 use Rattle.book.proofs.InsertLaws.{insert-leading, spliced-book}
@@ -165,3 +162,8 @@ module _ (s : List ℕ) (h : head.Head) (e : headOf h ≡ decodeHead s) where
       let k : h .cards + 1 ≡ suc (h .cards) = omega arith in
       q ∙ ap (λ (n : ℕ). encodeHead (record { uuid = h .uuid; blocks = h .blocks; reserved = h .reserved; hint = h .hint; cards = n; extents = h .extents; groups = h .groups })) k
       ∙ ap (λ (g : Head). encodeHead (record { uuid = g .uuid; blocks = g .blocks; reserved = g .reserved; hint = g .hint; cards = suc (g .cards); extents = g .extents; groups = g .groups })) e
+
+  -- the number of cards that it counts
+  pub count-of : h .cards ≡ decodeHead s .cards
+  unfolding headOf
+  count-of = ap (λ (k : Head). k .cards) e

@@ -1,9 +1,9 @@
 -- Laws of what the inner calls leave: zeros, zeros of which the first bits are set, one map less another, and fresh's head.
 -- Assumes nothing.
-use mathlib.Core.Path.{_≡_, refl, sym, ap, _∙_}
+use mathlib.Core.Path.{_≡_, sym, ap, _∙_}
 use mathlib.Core.Bool.{Bool, true, false, not, _&&_}
 use mathlib.Core.List.{List}
-use Prim.Native.Nat.{ℕ, _+_, _-_, _*_, _/_, _%_, _^_, _≤_, _<_}
+use Prim.Native.Nat.{ℕ, _-_, _*_, _/_, _%_, _^_, _≤_, _<_}
 use native.Mathlib.Decide.{decLt}
 use native.Mathlib.Nat.{zero-add, zero-div, zero-mod}
 use native.Mathlib.Omega.{arith}
@@ -13,7 +13,7 @@ use lib.ListN.{length, take, replicate, length-replicate}
 use lib.Seq.{take-all}
 use Rattle.rules.specs.Lists.{count, range}
 use Rattle.rules.specs.Bytes.{Bytes, patch, bitSet, bitBytes}
-use Rattle.rules.specs.Head.{Head, uuidBytes, encodeHead}
+use Rattle.rules.specs.Head.{uuidBytes, encodeHead}
 use Rattle.rules.specs.Map.{mapBytes, encodeMap}
 use Rattle.rules.proofs.ListLaws.{getD-same}
 use Rattle.rules.proofs.ByteLaws.{bytes-replicate}

@@ -92,7 +92,10 @@ pub extern "C" fn sangueko_enter(
         return Answer { number, count: 0 };
     }
     enter::enter_card(head, cards, n, object, seconds, nanoseconds);
-    Answer { number: 0, count: 0 }
+    Answer {
+        number: 0,
+        count: 0,
+    }
 }
 
 // A fresh store in the lent buffers, whatever they hold: no record, the first blocks reserved and used, none retired. The image stays.
@@ -121,11 +124,17 @@ pub extern "C" fn sangueko_fresh(
         uuid,
         reserved,
     ) {
-        return Answer { number: 1, count: 0 };
+        return Answer {
+            number: 1,
+            count: 0,
+        };
     }
     let blocks = image.len() / BLOCK_BYTES;
     fresh::fresh_books(cards, extents, groups);
     fresh::fresh_maps(used, retired, blocks, reserved as usize);
     fresh::fresh_head(head, uuid, blocks as u64, reserved);
-    Answer { number: 0, count: 0 }
+    Answer {
+        number: 0,
+        count: 0,
+    }
 }

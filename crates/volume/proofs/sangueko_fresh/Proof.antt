@@ -1,5 +1,8 @@
 -- `volume::sangueko_fresh` meets its contract.
 -- Assumes nothing.
+use Rattle.volume.proofs.CallLaws.{fresh-ready, fresh-stopped, fresh-done}
+use native.Mathlib.Omega.{arith}
+use mathlib.Core.Path.{sym, _∙_}
 use borrow.Author.Needs.{needs}
 use Rattle.volume.proofs.sangueko_fresh.Statement.{statement}
 use Rattle.volume.proofs.sangueko_fresh.Tie as tie
@@ -26,16 +29,16 @@ same-length-6 : tie.Need-same-length-6
 same-length-6 c = search needs
 
 returns : tie.Need-returns
-returns c = search needs
+returns c = fresh-stopped _ _ _ (sym (c .before .fresh-length-wrong .ensures) ∙ c .if1 .taken)
 
 fresh-books-requires : tie.Need-fresh-books-requires
 fresh-books-requires c κs = search needs
 
 fresh-maps-requires : tie.Need-fresh-maps-requires
-fresh-maps-requires c κs = search needs
+fresh-maps-requires c κs = let r = fresh-ready _ _ _ (sym (c .before .before .before .before .before .before .before .before .before .before .before .before .before .fresh-length-wrong .ensures) ∙ c .before .before .before .before .before .before .before .before .before .before .before .before .if1 .left) in (r .used, r .retired, r .room)
 
 fresh-head-requires : tie.Need-fresh-head-requires
-fresh-head-requires c κs = search needs
+fresh-head-requires c κs = let r = fresh-ready _ _ _ (sym (c .before .before .before .before .before .before .before .before .before .before .before .before .before .before .before .before .before .before .before .fresh-length-wrong .ensures) ∙ c .before .before .before .before .before .before .before .before .before .before .before .before .before .before .before .before .before .before .if1 .left) in (r .head, r .width, omega (arith, r .few), omega (arith, r .few, r .room))
 
 same-length-7 : tie.Need-same-length-7
 same-length-7 c = search needs
@@ -56,7 +59,7 @@ same-length-12 : tie.Need-same-length-12
 same-length-12 c = search needs
 
 returns-2 : tie.Need-returns-2
-returns-2 c = search needs
+returns-2 c = fresh-done _ _ _ (sym (c .before .before .before .before .before .before .before .before .before .before .before .before .before .before .before .before .before .before .before .before .before .before .fresh-length-wrong .ensures) ∙ c .before .before .before .before .before .before .before .before .before .before .before .before .before .before .before .before .before .before .before .before .before .if1 .left) _ _ _ _ _ _ (c .before .before .fresh-head .ensures) (c .before .before .before .before .before .before .before .before .before .before .before .before .before .before .before .before .before .fresh-books .ensures .0) (c .before .before .before .before .before .before .before .before .before .before .before .before .before .before .before .before .before .fresh-books .ensures .1) (c .before .before .before .before .before .before .before .before .before .before .before .before .before .before .before .before .before .fresh-books .ensures .2) (c .before .before .before .before .before .before .before .before .fresh-maps .ensures .0) (c .before .before .before .before .before .before .before .before .fresh-maps .ensures .1)
 
 pub sangueko-fresh-spec : {M : Type 1} → statement M
 sangueko-fresh-spec =

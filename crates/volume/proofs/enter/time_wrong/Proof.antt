@@ -3,7 +3,6 @@
 use Rattle.volume.proofs.EnterLaws.{time-late, time-part}
 use native.Mathlib.Omega.{arith}
 use mathlib.Core.Path.{refl}
-use borrow.Author.Needs.{needs}
 use Rattle.volume.proofs.enter.time_wrong.Statement.{statement}
 use Rattle.volume.proofs.enter.time_wrong.Tie as tie
 

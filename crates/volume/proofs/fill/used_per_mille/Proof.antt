@@ -3,7 +3,6 @@
 use Rattle.volume.proofs.MapLaws.{map-holds, per-mille-of}
 use Rattle.bitmap.proofs.MapLaws.{count-most}
 use native.Mathlib.Omega.{arith}
-use borrow.Author.Needs.{needs}
 use Rattle.volume.proofs.fill.used_per_mille.Statement.{statement}
 use Rattle.volume.proofs.fill.used_per_mille.Tie as tie
 
