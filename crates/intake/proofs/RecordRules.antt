@@ -1,12 +1,12 @@
 -- The tests of one record: what each field that was looked at says of the whole.
 -- Assumes nothing.
-use mathlib.Core.Path.{_≡_, refl, sym, ap, _∙_}
-use mathlib.Core.Bool.{Bool, true, false, not, _&&_}
+use mathlib.Core.Path.{_≡_, refl, _∙_}
+use mathlib.Core.Bool.{Bool, true, false, not}
 use mathlib.Core.List.{List}
 use Prim.Native.Nat.{ℕ, _+_, _-_, _*_, _<_}
 use native.Mathlib.Omega.{arith}
-use borrow.Author.Tests.{eq-eqb, ne-eqb, lt-ltb, not-true, not-false}
-use lib.Dec.{eqb, ltb, leb}
+use borrow.Author.Tests.{lt-ltb, not-true, not-false}
+use lib.Dec.{ltb, leb}
 use Rattle.rules.specs.Bytes.{part}
 use Rattle.rules.specs.Card.{decodeCard, cardSpareZero}
 use Rattle.rules.specs.Extent.{extentBytes, decodeExtent, extentFixed}
