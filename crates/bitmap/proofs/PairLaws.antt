@@ -1,20 +1,19 @@
 -- Laws of words of bits that fail a test: made of a word of each of two maps, cut to a part, and put together.
 -- Assumes nothing.
-use mathlib.Core.Path.{_≡_, refl, sym, ap, ap₂, _∙_}
+use mathlib.Core.Path.{_≡_, refl, sym, ap, _∙_}
 use mathlib.Core.Bool.{Bool, true, false, not, _&&_, _||_}
 use mathlib.Core.List.{List}
 use Prim.Native.Nat.{ℕ, zero, suc, _+_, _-_, _*_, _/_, _%_, _^_, _≤_, _<_}
-use native.Mathlib.Nat.{zero-mul, mul-comm, eq-of-mul-eq-mul-right, mul-mod-left, mod-lt, div-add-mod', add-comm, zero-add, sub-self}
-use native.Mathlib.Decide.{ℕ-discrete}
+use native.Mathlib.Nat.{zero-mul, suc-mul, mul-comm, eq-of-mul-eq-mul-right, mul-mod-left, mod-lt, div-add-mod', add-comm, sub-self}
 use native.Mathlib.Omega.{arith}
-use borrow.Author.Tests.{eqb-true, eq-eqb, ne-eqb, not-true, not-false}
+use borrow.Author.Tests.{eqb-true, eq-eqb, not-true, not-false}
 use lib.Bits.{bitAnd, bitOr, and-lt}
 use lib.Dec.{eqb}
 use lib.ListN.{length}
 use lib.Pow.{pow-pos, shl-shr, shr-shr, mod-pow-add}
 use Rattle.rules.specs.Lists.{if_then_else_, all, range}
 use Rattle.rules.specs.Bytes.{le, part, Bytes, bitSet}
-use Rattle.rules.proofs.ListLaws.{test-cases, clash, and-left, and-right, and-intro, all-append, all-range-at, all-range-of, range-add}
+use Rattle.rules.proofs.ListLaws.{and-left, and-right, and-intro, all-append, all-range-at, all-range-of, range-add}
 use Rattle.bitmap.specs.Map.{bitOf}
 use Rattle.bitmap.specs.Pair.{only, inside, Holds, Fails}
 use Rattle.bitmap.proofs.BitLaws.{bit-zero, bit-or, bit-and, bit-not, bit-below, bit-alike, bits-same}
@@ -80,7 +79,7 @@ moved y n h =
 -- a product with a number above zero that is zero
 left-zero : (x p : ℕ) → 0 < p → x * p ≡ 0 → x ≡ 0
 left-zero zero p l e = refl
-left-zero (suc x) p l e = absurd (omega (arith, native.Mathlib.Nat.suc-mul x p))
+left-zero (suc x) p l e = absurd (omega (arith, suc-mul x p))
 
 -- the test of n bits of a word
 pub clear-part : (w s n : ℕ) → n ≤ 64 → eqb (w / 2 ^ s * 2 ^ (64 - n) % 2 ^ 64) 0 ≡ all (λ j. not (bitOf w j)) (range s n)

@@ -2,20 +2,24 @@
 -- Assumes nothing.
 use mathlib.Core.Path.{_≡_, refl, sym, ap, _∙_}
 use mathlib.Core.Bool.{Bool, true, false, not, _&&_}
-use mathlib.Core.List.{List, [], _∷_}
+use mathlib.Core.List.{List, [], _∷_, _++_}
 use Prim.Native.Nat.{ℕ, suc, _+_, _-_, _*_, _≤_, _<_}
 use native.Mathlib.Decide.{ℕ-discrete}
+use native.Mathlib.Nat.{sub-self}
 use native.Mathlib.Omega.{arith}
+use lib.Dec.{eqb, ltb}
 use borrow.Author.Tests.{not-true, not-false}
 use lib.ListN.{length, drop, getD, length-drop}
 use lib.Seq.{take-all}
-use Rattle.rules.specs.Lists.{ascending, pairBefore, neighbours}
+use Rattle.rules.specs.Lists.{all, ascending, pairBefore, neighbours}
 use Rattle.rules.specs.Bytes.{part, allZero}
+use Rattle.rules.specs.Card.{cardBytes, decodeCard, cardBefore}
 use Rattle.rules.specs.Extent.{Extent, extentBytes, decodeExtent, extentBefore}
 use Rattle.rules.specs.Group.{groupBytes, decodeGroup, groupBefore}
 use Rattle.rules.specs.Book.{decodeBook}
 use Rattle.rules.specs.Integrity.{apart}
-use Rattle.rules.proofs.ListLaws.{test-cases, clash, ascending-at, ascending-of}
+use Rattle.rules.proofs.ListLaws.{test-cases, clash, and-intro, all-append, ascending-at, ascending-of}
+use Rattle.rules.proofs.ByteLaws.{part-add, part-none}
 use Rattle.rules.proofs.BookLaws.{length-decodeBook, decodeBook-none}
 use Rattle.book.specs.Places.{recordAt, follows}
 use Rattle.book.proofs.SearchLaws.{record-at}
@@ -84,11 +88,11 @@ pub follows-empty : (n : ℕ) (s : List ℕ) → n ≡ 0 → true ≡ (ascending
 unfolding neighbours
 follows-empty n s e = rw (e, decodeBook-none decodeExtent 33 s) refl
 
--- two records in hand that were compared are neighbours in the book
-pub pair-of : {A : Type 0} (before : A → A → Bool) (decode : List ℕ → A) (w i : ℕ) (s : List ℕ) (m : Bool) (a b : A) → a ≡ decode (part (w * (i - 1)) w s) → b ≡ decode (part (w * i) w s) → m ≡ before a b
-    → m ≡ before (recordAt decode w s (i - 1)) (recordAt decode w s i)
-unfolding recordAt
-pair-of before decode w i s m a b p q e = e ∙ rw (p, q) refl
+-- the objects of two cards
+pub cards-pair : (s : List ℕ) (i a b : ℕ) → a ≡ decodeCard (part (32 * (i - 1)) cardBytes s) .object → b ≡ decodeCard (part (32 * i) cardBytes s) .object
+    → ltb a b ≡ cardBefore (recordAt decodeCard cardBytes s (i - 1)) (recordAt decodeCard cardBytes s i)
+unfolding recordAt cardBefore
+cards-pair s i a b p q = rw (p, q) refl
 
 module _ (s : List ℕ) (n i : ℕ) (m : Bool) (a b : Extent) (z : 0 < i) (p : a ≡ recordAt decodeExtent extentBytes s (i - 1)) (q : b ≡ decodeExtent (part (33 * i) extentBytes s)) (e : m ≡ follows a b) where
   -- the test of the one before and the one at a place
@@ -136,7 +140,51 @@ pub groups-pair : (s : List ℕ) (i a b c d : ℕ) (m : Bool) → a ≡ decodeGr
 unfolding recordAt groupBefore
 groups-pair s i a b c d m p q r t e = e ∙ rw (p, q, r, t) refl
 
--- the zeros behind so many bytes
-pub zero-from : (s : List ℕ) (used : ℕ) (m : Bool) → used ≤ length s → m ≡ allZero (part used (length s - used) s) → m ≡ allZero (drop used s)
-unfolding part
-zero-from s used m l e = e ∙ ap allZero (take-all (length s - used) (drop used s) (simp length-drop (omega arith)))
+-- ---- the zeros behind so many bytes
+
+-- of two lists together
+zero-append : (xs ys : List ℕ) → allZero (xs ++ ys) ≡ (allZero xs && allZero ys)
+unfolding allZero
+zero-append xs ys = all-append (λ b. eqb b 0) xs ys
+
+module _ (s : List ℕ) (used a : ℕ) (l : used ≤ a) where
+  -- two parts side by side
+  zero-parts : (n : ℕ) → allZero (part used (a - used + n) s) ≡ (allZero (part used (a - used) s) && allZero (part a n s))
+  zero-parts n =
+      let q : used + (a - used) ≡ a = omega arith in
+      ap allZero (part-add s used (a - used) n) ∙ zero-append (part used (a - used) s) (part (used + (a - used)) n s)
+      ∙ ap (λ (x : ℕ). allZero (part used (a - used) s) && allZero (part x n s)) q
+
+  -- all that stands behind
+  zero-all : a ≤ length s → allZero (drop used s) ≡ (allZero (part used (a - used) s) && allZero (part a (length s - a) s))
+  zero-all h =
+      let q : a - used + (length s - a) ≡ length s - used = omega arith in
+      let d : part used (length s - used) s ≡ drop used s = unfold part in take-all (length s - used) (drop used s) (simp length-drop (omega arith)) in
+      ap allZero (sym d) ∙ ap (λ (n : ℕ). allZero (part used n s)) (sym q) ∙ zero-parts (length s - a)
+
+  module _ (z : allZero (part used (a - used) s) ≡ true) where
+    -- a stretch more
+    pub zero-more : (m : Bool) → m ≡ allZero (part a (a + 4096 - a) s) → not m ≡ false → allZero (part used (a + 4096 - used) s) ≡ true
+    zero-more m e t =
+        let q : a + 4096 - used ≡ a - used + 4096 = omega arith in
+        let k : a + 4096 - a ≡ 4096 = omega arith in
+        rw q (zero-parts 4096 ∙ and-intro (allZero (part used (a - used) s)) (allZero (part a 4096 s)) z (rw k at (sym e ∙ not-false m t)))
+
+    -- one that is not zero
+    pub zero-not : (m : Bool) → 4096 ≤ length s - a → m ≡ allZero (part a (a + 4096 - a) s) → not m ≡ true → false ≡ allZero (drop used s)
+    zero-not m h e t =
+        let k : a + 4096 - a ≡ 4096 = omega arith in
+        let n : allZero (part a 4096 s) ≡ false = rw k at (sym e ∙ not-true m t) in
+        let r : 4096 + (length s - (a + 4096)) ≡ length s - a = omega arith in
+        let b : allZero (part a (length s - a) s) ≡ false =
+        ap (λ (x : ℕ). allZero (part a x s)) (sym r) ∙ ap allZero (part-add s a 4096 (length s - (a + 4096))) ∙ zero-append (part a 4096 s) (part (a + 4096) (length s - (a + 4096)) s) ∙ rw n refl in
+        sym (zero-all (omega arith) ∙ rw (z, b) refl)
+
+    -- the rest
+    pub zero-rest : (m : Bool) → a ≤ length s → m ≡ allZero (part a (length s - a) s) → m ≡ allZero (drop used s)
+    zero-rest m h e = e ∙ sym (zero-all h ∙ rw z refl)
+
+-- nothing yet
+pub zero-none : (s : List ℕ) (used : ℕ) → allZero (part used (used - used) s) ≡ true
+unfolding allZero all
+zero-none s used = rw (sub-self used, part-none s used) refl

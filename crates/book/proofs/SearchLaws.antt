@@ -20,9 +20,8 @@ use Rattle.rules.specs.Book.{decodeBook}
 use Rattle.rules.specs.Inspect.{floorExtent}
 use Rattle.rules.proofs.ListLaws.{if-true, if-false, test-cases, clash, any-index, filter-yes, filter-no, filter-none, find-at, find-none}
 use Rattle.rules.proofs.BookLaws.{length-decodeBook, getD-decodeBook}
-use Rattle.format.specs.declared.card.Card.{Card}
 use Rattle.format.specs.declared.extent.Extent.{Extent as ExtentStruct}
-use Rattle.format.specs.Records.{cardOf, extentOf}
+use Rattle.format.specs.Records.{extentOf}
 use Rattle.book.specs.declared.Found.{Found}
 use Rattle.book.specs.declared.Found.the-variants.{At, Nothing}
 use Rattle.book.specs.Places.{recordAt, foundIn, placeOf, firstPlace, lastPlace, leading, FoundFirst, FloorExtent, cardIs, cardUnder, extentUnder, extentUpTo, groupIs, groupUnder}
@@ -236,18 +235,18 @@ floor-extent object block n s r h = record { place = h .place; found = h .found;
 -- ---- the tests of one record
 
 module _ (s : List ℕ) (i object : ℕ) where
-  module _ (c : Card) (e : cardOf c ≡ decodeCard (part (32 * i) cardBytes s)) where
-    -- a card in hand has the object of the record
-    card-object : c .object ≡ recordAt decodeCard cardBytes s i .object
-    unfolding recordAt cardOf
-    card-object = ap (λ r. r .object) e
+  module _ (x : ℕ) (e : x ≡ decodeCard (part (32 * i) cardBytes s) .object) where
+    -- an object that was read is that of the record
+    card-object : x ≡ recordAt decodeCard cardBytes s i .object
+    unfolding recordAt
+    card-object = e
 
     -- so it is the one that is looked for if the record is
-    pub card-is : eqb (c .object) object ≡ cardIs object (recordAt decodeCard cardBytes s i)
+    pub card-is : eqb x object ≡ cardIs object (recordAt decodeCard cardBytes s i)
     card-is = ap (λ (a : ℕ). eqb a object) card-object
 
     -- and stands before an object if the record does
-    pub card-under : ltb (c .object) object ≡ cardUnder object (recordAt decodeCard cardBytes s i)
+    pub card-under : ltb x object ≡ cardUnder object (recordAt decodeCard cardBytes s i)
     card-under = ap (λ (a : ℕ). ltb a object) card-object
 
   module _ (x : ℕ) (c : ExtentStruct) (e : extentOf c ≡ decodeExtent (part (33 * i) extentBytes s)) where

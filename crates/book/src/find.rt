@@ -20,8 +20,7 @@ fn card_is(s: &[u8], i: usize, object: u64) -> bool
     requires { ⌜ cardBytes * i + cardBytes ≤ length (now s) ⌝ }
     ensures { λ r. ⌜ r ≡ cardIs object (recordAt decodeCard cardBytes (now (s .entry)) i) ⌝ }
 {
-    let c = format::card::decode_card(s, CARD_BYTES * i);
-    c.object == object
+    format::card::card_object(s, CARD_BYTES * i) == object
 }
 
 // The card of `object` among the first `n`.
@@ -124,8 +123,7 @@ fn card_under(s: &[u8], i: usize, object: u64) -> bool
     requires { ⌜ cardBytes * i + cardBytes ≤ length (now s) ⌝ }
     ensures { λ r. ⌜ r ≡ cardUnder object (recordAt decodeCard cardBytes (now (s .entry)) i) ⌝ }
 {
-    let c = format::card::decode_card(s, CARD_BYTES * i);
-    c.object < object
+    format::card::card_object(s, CARD_BYTES * i) < object
 }
 
 // The place of the first card whose object is `object` or more, or `n`.

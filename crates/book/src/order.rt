@@ -17,12 +17,22 @@ use format::extent::EXTENT_BYTES;
 use format::extent::Extent;
 use format::group::GROUP_BYTES;
 
+// So many bytes are looked at together; the first stretch that is not zero ends the test.
+const STRETCH: usize = 4096;
+
 // Whether zeros stand behind the first `used` bytes.
 fn zero_from(s: &[u8], used: usize) -> bool
     requires { ⌜ used ≤ length (now s) ⌝ }
     ensures { λ r. ⌜ r ≡ allZero (drop used (now (s .entry))) ⌝ }
 {
-    words::range::is_zero(s, used, s.len())
+    let mut a = used;
+    while STRETCH <= s.len() - a {
+        if !words::range::is_zero(s, a, a + STRETCH) {
+            return false;
+        }
+        a += STRETCH;
+    }
+    words::range::is_zero(s, a, s.len())
 }
 
 // Whether zeros stand behind the last of `n` cards.
@@ -55,24 +65,9 @@ pub fn card_follows(s: &[u8], i: usize) -> bool
     requires { ⌜ cardBytes * i + cardBytes ≤ length (now s) ⌝ }
     ensures { λ r. ⌜ r ≡ cardBefore (recordAt decodeCard cardBytes (now (s .entry)) (i - 1)) (recordAt decodeCard cardBytes (now (s .entry)) i) ⌝ }
 {
-    let c = format::card::decode_card(s, CARD_BYTES * (i - 1));
-    let d = format::card::decode_card(s, CARD_BYTES * i);
-    c.before(d)
-}
-
-// Whether the first `n` cards ascend by object.
-pub fn cards_ordered(s: &[u8], n: usize) -> bool
-    requires { ⌜ cardBytes * n ≤ length (now s) ⌝ }
-    ensures { λ r. ⌜ r ≡ ascending cardBefore (decodeBook decodeCard cardBytes n (now (s .entry))) ⌝ }
-{
-    let mut i: usize = 1;
-    while i < n {
-        if !card_follows(s, i) {
-            return false;
-        }
-        i += 1;
-    }
-    true
+    let a = format::card::card_object(s, CARD_BYTES * (i - 1));
+    let b = format::card::card_object(s, CARD_BYTES * i);
+    a < b
 }
 
 // Whether the group at place `i` follows the one before it.
@@ -89,21 +84,6 @@ pub fn group_follows(s: &[u8], i: usize) -> bool
         format::group::group_object(s, b),
         format::group::group_number(s, b),
     )
-}
-
-// Whether the first `n` groups ascend by key.
-pub fn groups_ordered(s: &[u8], n: usize) -> bool
-    requires { ⌜ groupBytes * n ≤ length (now s) ⌝ }
-    ensures { λ r. ⌜ r ≡ ascending groupBefore (decodeBook decodeGroup groupBytes n (now (s .entry))) ⌝ }
-{
-    let mut i: usize = 1;
-    while i < n {
-        if !group_follows(s, i) {
-            return false;
-        }
-        i += 1;
-    }
-    true
 }
 
 // Whether an extent stands before the next and keeps apart from it.

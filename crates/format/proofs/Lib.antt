@@ -1,4 +1,5 @@
 pub mod TestLaws
 pub mod RecordLaws
+pub mod CardWords
 pub mod SlotLaws
 pub mod RoundTrips

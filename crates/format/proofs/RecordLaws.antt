@@ -12,7 +12,7 @@ use lib.ListN.{length, take, drop, getD, replicate, length-append, length-drop, 
 use lib.Seq.{take-all}
 use Rattle.rules.specs.Bytes.{be, le, beDigits, leDigits, part, patch, unpack, allZero}
 use Rattle.rules.specs.Head.{headBytes, uuidBytes, headWidths, headFields, decodeHead}
-use Rattle.rules.specs.Card.{cardBytes, cardWidths, cardFields, decodeCard, cardSpareZero}
+use Rattle.rules.specs.Card.{cardBytes, cardWidths, cardFields, decodeCard}
 use Rattle.rules.specs.Extent.{extentBytes, extentKey, decodeExtent, encodeExtent, extentFixed}
 use Rattle.rules.specs.Lists.{all}
 use Rattle.rules.proofs.ListLaws.{and-left, and-right, and-intro}
@@ -126,11 +126,6 @@ module _ (s : List ℕ) (at : ℕ) where
       let g : Fit cardWidths (unpack cardWidths (be (part at 32 s))) = fit-unpack cardWidths (be (part at 32 s)) in
       let fit : Fit cardWidths (cardValues f) = rw v g in
       record { size = rw z (fit-at fit 1 (omega arith)); allocated = rw a (fit-at fit 2 (omega arith)); seconds = rw t (fit-at fit 3 (omega arith)); nanoseconds = rw n (fit-at fit 4 (omega arith)) }
-
-  -- the spare bit
-  pub card-spare : (f : CardValues) → cardValues f ≡ unpack cardWidths (be (part at 32 s)) → eqb (f .spare) 0 ≡ cardSpareZero (part at cardBytes s)
-  unfolding cardSpareZero cardFields
-  card-spare f v = λ i. eqb (getD (v i) 5 0) 0
 
 -- ---- the head
 

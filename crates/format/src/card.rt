@@ -1,6 +1,6 @@
 // A card: the record of a file.
 ghost use mathlib.Core.Path.{_≡_};
-ghost use Prim.Native.Nat.{_+_, _≤_};
+ghost use Prim.Native.Nat.{_+_, _^_, _≤_, _<_};
 ghost use lib.ListN.{length};
 ghost use Rattle.rules.specs.Bytes.{part, patch};
 ghost use Rattle.rules.specs.Card.{cardBytes, decodeCard, encodeCard, cardSpareZero, cardBefore};
@@ -8,6 +8,11 @@ ghost use Rattle.format.specs.Records.{cardOf, CardFits};
 
 // Bytes of a card.
 pub const CARD_BYTES: usize = 32;
+
+// Where in a card the word stands that has its size, and the one that has its nanoseconds and the spare bit.
+const SIZE_AT: usize = 8;
+
+const NANOSECONDS_AT: usize = 24;
 
 // A file's object, its size, the blocks that it has, and the time of its last change.
 pub struct Card {
@@ -42,13 +47,36 @@ pub fn decode_card(s: &[u8], at: usize) -> Card
     }
 }
 
+// The object of the card at `at`. A field that is read by itself is read from its own word: a whole card costs four.
+pub fn card_object(s: &[u8], at: usize) -> u64
+    requires { ⌜ at + cardBytes ≤ length (now s) ⌝ }
+    ensures { λ r. ⌜ r ≡ decodeCard (part at cardBytes (now (s .entry))) .object ⌝ }
+{
+    words::be64(s, at)
+}
+
+// The size of the card at `at`.
+pub fn card_size(s: &[u8], at: usize) -> u64
+    requires { ⌜ at + cardBytes ≤ length (now s) ⌝ }
+    ensures { λ r. ⌜ (r ≡ decodeCard (part at cardBytes (now (s .entry))) .size) × (r < 2 ^ 63) ⌝ }
+{
+    words::be64(s, at + SIZE_AT) / 2
+}
+
+// The nanoseconds of the card at `at`.
+pub fn card_nanoseconds(s: &[u8], at: usize) -> u64
+    requires { ⌜ at + cardBytes ≤ length (now s) ⌝ }
+    ensures { λ r. ⌜ r ≡ decodeCard (part at cardBytes (now (s .entry))) .changed .nanoseconds ⌝ }
+{
+    words::be64(s, at + NANOSECONDS_AT) / 2 % 0x4000_0000
+}
+
 // Whether the spare bit of the card at `at` is zero.
 pub fn card_spare_zero(s: &[u8], at: usize) -> bool
     requires { ⌜ at + cardBytes ≤ length (now s) ⌝ }
     ensures { λ r. ⌜ r ≡ cardSpareZero (part at cardBytes (now (s .entry))) ⌝ }
 {
-    let f = words::field::read_card(s, at);
-    f.spare == 0
+    words::be64(s, at + NANOSECONDS_AT) % 2 == 0
 }
 
 // A card, at `at`.

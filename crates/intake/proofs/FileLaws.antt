@@ -7,8 +7,8 @@ use Prim.Native.Nat.{ℕ, zero, suc, _+_, _-_, _*_, _/_, _≤_, _<_}
 use native.Mathlib.Nat.{add-zero, add-suc}
 use native.Mathlib.Omega.{arith}
 use borrow.Author.Tests.{eqb-true, eq-eqb, ne-eqb, ltb-true, ltb-false, lt-ltb, le-ltb}
-use lib.Dec.{eqb, ltb, leb}
-use lib.ListN.{length, getD}
+use lib.Dec.{ltb, leb}
+use lib.ListN.{length}
 use Rattle.rules.specs.Lists.{range, all, any, ascending}
 use Rattle.rules.specs.Bytes.{part}
 use Rattle.rules.specs.Card.{Card, cardBytes, decodeCard, cardBefore}
@@ -18,9 +18,8 @@ use Rattle.rules.specs.Integrity.{inFile}
 use Rattle.rules.proofs.ListLaws.{test-cases, order-cases, and-left, and-right, and-intro, any-at, any-index, ascending-at, pairBefore-cases}
 use Rattle.rules.proofs.ScanLaws.{same-test, scan-none, scan-more, scan-not, scan-done}
 use Rattle.rules.proofs.BookLaws.{length-decodeBook}
-use Rattle.format.specs.declared.card.Card.{Card as CardStruct}
 use Rattle.format.specs.declared.extent.Extent.{Extent as ExtentStruct}
-use Rattle.format.specs.Records.{cardOf, extentOf}
+use Rattle.format.specs.Records.{extentOf}
 use Rattle.book.specs.Places.{recordAt}
 use Rattle.book.proofs.SearchLaws.{record-at}
 use Rattle.intake.specs.BookTests.{inFileOf, inFileAt, filesRight, CardFrom}
@@ -180,23 +179,23 @@ Under object a s i = (k : ℕ) → a ≤ k → k < i → recordAt decodeCard car
 pub under-none : (object a : ℕ) (s : List ℕ) → Under object a s a
 under-none object a s k l h = absurd (omega arith)
 
-module _ (object a : ℕ) (s : List ℕ) (i : ℕ) (u : Under object a s i) (c : CardStruct) (q : cardOf c ≡ decodeCard (part (cardBytes * i) cardBytes s)) where
-  -- the object of the card in hand
-  object-here : recordAt decodeCard cardBytes s i .object ≡ c .object
-  unfolding recordAt cardOf
-  object-here = ap (λ (d : Card). d .object) (sym q)
+module _ (object a : ℕ) (s : List ℕ) (i : ℕ) (u : Under object a s i) (x : ℕ) (q : x ≡ decodeCard (part (cardBytes * i) cardBytes s) .object) where
+  -- the object that was read is that of the record
+  object-here : recordAt decodeCard cardBytes s i .object ≡ x
+  unfolding recordAt
+  object-here = sym q
 
   -- one more
-  pub under-more : c .object < object → Under object a s (i + 1)
+  pub under-more : x < object → Under object a s (i + 1)
   under-more f k l h = test-cases (recordAt decodeCard cardBytes s k .object < object) (ltb k i)
       (λ t. u k l (ltb-true k i t))
       (λ t.
       let z : k ≡ i = omega (arith, ltb-false k i t) in
-      let o : recordAt decodeCard cardBytes s k .object ≡ c .object = rw z object-here in
+      let o : recordAt decodeCard cardBytes s k .object ≡ x = rw z object-here in
       omega arith)
 
   -- it stands here
-  pub from-here : (n : ℕ) → a ≤ i → i < n → object ≤ c .object → CardFrom object n a s i
+  pub from-here : (n : ℕ) → a ≤ i → i < n → object ≤ x → CardFrom object n a s i
   from-here n l h f = record { least = l; most = omega arith; below = u; there = λ t. rw object-here f }
 
 -- it stands nowhere
@@ -211,18 +210,13 @@ module _ (x : ExtentStruct) (n i : ℕ) (s : List ℕ) where
   unfolding inFileAt
   file-none l = rw (le-ltb i n l) refl
 
-  module _ (l : i < n) (c : CardStruct) (q : cardOf c ≡ decodeCard (part (cardBytes * i) cardBytes s)) where
-    -- the card there
-    card-here : inFileAt (extentOf x) n s i ≡ inFileOf (extentOf x) (cardOf c)
-    unfolding inFileAt recordAt
-    card-here = rw (lt-ltb i n l, q) refl
-
-    -- it is another's
-    pub file-other : (c .object ≡ x .object → ⊥) → false ≡ inFileAt (extentOf x) n s i
-    unfolding inFileOf cardOf extentOf
-    file-other f = sym (card-here ∙ rw (ne-eqb (c .object) (x .object) f) refl)
+  module _ (l : i < n) (o : ℕ) (q : o ≡ decodeCard (part (cardBytes * i) cardBytes s) .object) where
+    -- the card there is another's
+    pub file-other : (o ≡ x .object → ⊥) → false ≡ inFileAt (extentOf x) n s i
+    unfolding inFileAt inFileOf recordAt extentOf
+    file-other f = rw (lt-ltb i n l, ← q, ne-eqb o (x .object) f) refl
 
     -- it is the extent's
-    pub file-size : c .object ≡ x .object → (k : Bool) → k ≡ leb (extentEnd (extentOf x)) ((c .size + 4095) / 4096) → k ≡ inFileAt (extentOf x) n s i
-    unfolding inFileOf cardOf extentOf
-    file-size f k u = u ∙ sym (card-here ∙ rw (eq-eqb (c .object) (x .object) f) refl)
+    pub file-size : o ≡ x .object → (z : ℕ) → z ≡ decodeCard (part (cardBytes * i) cardBytes s) .size → (k : Bool) → k ≡ leb (extentEnd (extentOf x)) ((z + 4095) / 4096) → k ≡ inFileAt (extentOf x) n s i
+    unfolding inFileAt inFileOf recordAt extentOf
+    file-size f z r k u = u ∙ rw (lt-ltb i n l, ← q, eq-eqb o (x .object) f, r) refl

@@ -1,37 +1,36 @@
 -- What refusal 1 leaves for granted, what the tests of books and maps are of the rules, and the number of the first refusal.
 -- Assumes nothing.
 use mathlib.Core.Path.{_≡_, refl, sym, ap, _∙_}
-use mathlib.Core.Bool.{Bool, true, false, not, _&&_, _||_, and-assoc}
+use mathlib.Core.Bool.{Bool, true, false, not, _&&_}
 use mathlib.Core.List.{List, [], _∷_, flatMap}
-use Prim.Native.Nat.{ℕ, _+_, _*_, _/_, _≤_, _<_}
+use Prim.Native.Nat.{ℕ, _+_, _*_, _≤_}
 use native.Mathlib.Omega.{arith}
-use borrow.Author.Tests.{eqb-true, leb-true, not-true, not-false}
-use lib.Dec.{eqb, leb, ltb}
+use borrow.Author.Tests.{eqb-true, not-false}
+use lib.Dec.{leb, ltb}
 use lib.ListN.{length}
 use Rattle.rules.specs.Lists.{if_then_else_, all, range}
-use Rattle.rules.specs.Bytes.{bitSet}
 use Rattle.rules.specs.Head.{Head, headBytes, decodeHead}
-use Rattle.rules.specs.Extent.{Extent, extentBytes, decodeExtent}
+use Rattle.rules.specs.Extent.{extentBytes, decodeExtent}
 use Rattle.rules.specs.Book.{LentBooks, bookPlaces, decodeBook, decodeBooks, Books}
-use Rattle.rules.specs.Store.{Store, Volume, lent, lentBooks, decode, decodeWith}
-use Rattle.rules.specs.Refusal.{numberOf, firstOf, _when_}
+use Rattle.rules.specs.Store.{Store, Volume, lent, decode, decodeWith}
+use Rattle.rules.specs.Refusal.{numberOf, firstOf}
 use Rattle.rules.specs.Answers.{outcomeNumber}
 use Rattle.rules.specs.Lengths.{buffersFit, headLength, headFits, countsFit, lengthWrong}
 use Rattle.rules.specs.Integrity.{ordered, timesRight, noneEmpty, noOverlap, onDevice, inFiles, bytesKeepRules, recordsKeepRules, booksKeepRules, booksBroken, mappedBlocks, mappedUsed, mappedLive, mappedUnreserved, mappedRight, reservedRight, retiredRight, nonePast, mapsKeepRules, mapsBroken, ruleBroken, storeCases}
-use Rattle.rules.proofs.ListLaws.{test-cases, and-left, and-right, all-append}
+use Rattle.rules.proofs.ListLaws.{test-cases, and-right, all-append}
 use Rattle.rules.proofs.PassLaws.{each-passed, BuffersSized, HeadRoom, buffers-sized, head-room, all-and, mappable, mapped-all, all-mapped, Passes}
 use Rattle.bitmap.specs.Pair.{only, inside}
 use Rattle.bitmap.proofs.PairLaws.{same-tests}
-use Rattle.intake.specs.Join.{storeNumber, Roomy}
+use Rattle.intake.specs.Join.{storeNumber, LengthsRight}
 use Rattle.intake.specs.MapTests as tests
 use Rattle.intake.specs.MapTests.{blocksMappable, extentMappable, mapsAlone, mapsRight, placed, MapsSized}
 
 -- ---- what refusal 1 leaves
 
--- the buffers have room for what the head says
-pub roomy : (s : Store) → lengthWrong s ≡ false → Roomy (s .head) (s .cards) (s .extents) (s .groups) (s .used) (s .retired)
+-- the lengths are right for what the head says
+pub lengths-right : (s : Store) → lengthWrong s ≡ false → LengthsRight (s .head) (s .cards) (s .extents) (s .groups) (s .used) (s .retired)
 unfolding lengthWrong headLength bookPlaces
-roomy s e =
+lengths-right s e =
     let h : Head = decodeHead (s .head) in
     let t = each-passed (buffersFit s) (headLength s ∷ headFits s h ∷ countsFit s h ∷ []) (not-false (buffersFit s && headLength s && headFits s h && countsFit s h) e) in
     let z : BuffersSized s = buffers-sized s (t .0) in
@@ -118,17 +117,19 @@ module _ (i hd c e g u x : List ℕ) (h : Head) (q : h ≡ decodeHead hd) where
   broken-maps r m p t k = rw (← books-are r p, t) ((rw q at k) ∙ ap not (maps-are (lent i hd c e g u x)))
 
   -- the maps are sized by the numbers in hand
-  pub sized-here : Roomy hd c e g u x → MapsSized (h .blocks) (h .reserved) u x
+  pub sized-here : LengthsRight hd c e g u x → MapsSized (h .blocks) (h .reserved) u x
   sized-here w = rw q (w .mapsFit)
 
-  -- so are the books
-  pub cards-here : Roomy hd c e g u x → 32 * h .cards ≤ length c
+  -- the cards are there
+  pub cards-here : LengthsRight hd c e g u x → 32 * h .cards ≤ length c
   cards-here w = rw q (w .cardsFit)
 
-  pub extents-here : Roomy hd c e g u x → 33 * h .extents ≤ length e
+  -- the extents
+  pub extents-here : LengthsRight hd c e g u x → 33 * h .extents ≤ length e
   extents-here w = rw q (w .extentsFit)
 
-  pub groups-here : Roomy hd c e g u x → 1073 * h .groups ≤ length g
+  -- and the groups
+  pub groups-here : LengthsRight hd c e g u x → 1073 * h .groups ≤ length g
   groups-here w = rw q (w .groupsFit)
 
 -- the image is not looked at

@@ -1,23 +1,19 @@
 -- Laws of refusal 1's tests, in the shape of the functions that try them one by one.
 -- Assumes nothing.
-use mathlib.Core.Path.{_≡_, refl, sym, ap, _∙_}
-use mathlib.Core.Bool.{Bool, true, false, not, _&&_}
+use mathlib.Core.Path.{_≡_, refl}
+use mathlib.Core.Bool.{Bool, true, false, not, _&&_, and-false}
 use mathlib.Core.List.{List}
-use Prim.Native.Nat.{ℕ, _+_, _*_, _/_, _%_, _≤_, _<_}
+use Prim.Native.Nat.{ℕ, _/_, _%_, _≤_, _<_}
 use native.Mathlib.Omega.{arith}
-use borrow.Author.Tests.{eqb-true, eq-eqb, ne-eqb, leb-true, le-leb, lt-leb, le-ltb, lt-ltb, not-true, not-false}
+use borrow.Author.Tests.{eq-eqb, ne-eqb, leb-true, leb-false, le-leb, lt-leb, le-ltb, lt-ltb, not-true, not-false}
 use lib.Dec.{eqb, leb, ltb}
 use lib.ListN.{length}
-use Rattle.rules.specs.Sizes.{blockBytes, mostBlocks, mostPlaces}
-use Rattle.rules.specs.Head.{Head, headBytes, decodeHead, uuidBytes}
-use Rattle.rules.specs.Card.{cardBytes}
-use Rattle.rules.specs.Extent.{extentBytes}
-use Rattle.rules.specs.Group.{groupBytes}
+use Rattle.rules.specs.Head.{Head, decodeHead}
 use Rattle.rules.specs.Map.{mapBytes}
 use Rattle.rules.specs.Book.{bookPlaces}
-use Rattle.rules.specs.Store.{Store, lent, imageBlocks}
+use Rattle.rules.specs.Store.{Store, imageBlocks}
 use Rattle.rules.specs.Lengths.{imageFits, mapFits, bookFits, buffersFit, headLength, headFits, countsFit, lengthWrong, freshLengthWrong}
-use Rattle.rules.proofs.ListLaws.{and-left, and-right}
+use Rattle.rules.proofs.ListLaws.{test-cases}
 use Rattle.intake.specs.LengthTests.{imageRight, bookRight, booksRight, mapsFit, buffersRight, headRight}
 
 -- ---- an image
@@ -59,11 +55,6 @@ first-not a b r e t = rw (← e, not-true r t) refl
 pub first-yes : (a b r q : Bool) → r ≡ a → not r ≡ false → q ≡ b → q ≡ (a && b)
 first-yes a b r q e t f = rw (← e, not-false r t) f
 
--- a test joined to nothing more
-and-none : (a : Bool) → (a && false) ≡ false
-and-none true = refl
-and-none false = refl
-
 -- the three books: the first fails
 pub books-first : (c e g : ℕ) (r : Bool) → r ≡ bookRight 32 c → not r ≡ true → false ≡ booksRight c e g
 unfolding booksRight
@@ -72,7 +63,7 @@ books-first c e g r p t = rw (← p, not-true r t) refl
 -- the second
 pub books-second : (c e g : ℕ) (r : Bool) → r ≡ bookRight 33 e → not r ≡ true → false ≡ booksRight c e g
 unfolding booksRight
-books-second c e g r p t = rw (← p, not-true r t, and-none (bookRight 32 c)) refl
+books-second c e g r p t = rw (← p, not-true r t, and-false (bookRight 32 c)) refl
 
 -- it is left to the third
 pub books-third : (c e g : ℕ) (r q o : Bool) → r ≡ bookRight 32 c → not r ≡ false → q ≡ bookRight 33 e → not q ≡ false → o ≡ bookRight 1073 g → o ≡ booksRight c e g
@@ -98,7 +89,7 @@ module _ (i c e g u x : ℕ) where
   -- a map is
   pub buffers-map : (r : Bool) → r ≡ mapsFit (i / 4096) u x → not r ≡ true → false ≡ buffersRight i c e g u x
   unfolding buffersRight
-  buffers-map r p t = rw (← p, not-true r t, and-none (imageRight i)) refl
+  buffers-map r p t = rw (← p, not-true r t, and-false (imageRight i)) refl
 
   -- it is left to the books
   pub buffers-books : (r q o : Bool) → r ≡ imageRight i → not r ≡ false → q ≡ mapsFit (i / 4096) u x → not q ≡ false → o ≡ booksRight c e g → o ≡ buffersRight i c e g u x
@@ -116,18 +107,18 @@ module _ (b c e g : ℕ) (h : Head) where
   -- more reserved than there are
   pub head-reserved : h .blocks < h .reserved → false ≡ headRight b c e g h
   unfolding headRight
-  head-reserved l = rw (lt-leb (h .reserved) (h .blocks) l, and-none (eqb (h .blocks) b)) refl
+  head-reserved l = rw (lt-leb (h .reserved) (h .blocks) l, and-false (eqb (h .blocks) b)) refl
 
   -- more cards than places
   pub head-cards : c < h .cards → false ≡ headRight b c e g h
   unfolding headRight
-  head-cards l = rw (lt-leb (h .cards) c l, and-none (eqb (h .blocks) b && leb (h .reserved) (h .blocks))) refl
+  head-cards l = rw (lt-leb (h .cards) c l, and-false (eqb (h .blocks) b && leb (h .reserved) (h .blocks))) refl
 
   -- more extents
   pub head-extents : e < h .extents → false ≡ headRight b c e g h
   unfolding headRight
   head-extents l =
-      rw (lt-leb (h .extents) e l, and-none (leb (h .cards) c), and-none (eqb (h .blocks) b && leb (h .reserved) (h .blocks))) refl
+      rw (lt-leb (h .extents) e l, and-false (leb (h .cards) c), and-false (eqb (h .blocks) b && leb (h .reserved) (h .blocks))) refl
 
   -- it is left to the groups
   pub head-groups : h .blocks ≡ b → h .reserved ≤ h .blocks → h .cards ≤ c → h .extents ≤ e → leb (h .groups) g ≡ headRight b c e g h
@@ -196,7 +187,8 @@ module _ (s : Store) (r : Bool) (p : r ≡ buffersRight (length (s .image)) (len
         rw (buffers-are s, ← p, not-false r t, eq-eqb (length u) 16 e, eq-eqb (length (s .head)) 28 d) (above (length (s .image) / 4096) n)
       where
         above : (a b : ℕ) → ltb a b ≡ not (leb b a)
-        above a b = Rattle.rules.proofs.ListLaws.test-cases (ltb a b ≡ not (leb b a)) (leb b a) (λ e. rw (e, le-ltb a b (leb-true b a e)) refl) (λ e. rw (e, lt-ltb a b (borrow.Author.Tests.leb-false b a e)) refl)
+        above a b =
+            test-cases (ltb a b ≡ not (leb b a)) (leb b a) (λ e. rw (e, le-ltb a b (leb-true b a e)) refl) (λ e. rw (e, lt-ltb a b (leb-false b a e)) refl)
 
 -- a head in hand is the one in the bytes
 pub of-head : (b c e g : ℕ) (s : List ℕ) (h : Head) (r : Bool) → r ≡ headRight b c e g h → h ≡ decodeHead s → r ≡ headRight b c e g (decodeHead s)

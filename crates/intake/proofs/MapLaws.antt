@@ -1,22 +1,21 @@
 -- Laws of refusal 2's rules on the maps: over each extent of a book, over the maps alone, and what they are of the rules.
 -- Assumes nothing.
 use mathlib.Core.Path.{_≡_, refl, sym, ap, _∙_}
-use mathlib.Core.Bool.{Bool, true, false, not, _&&_, _||_}
-use mathlib.Core.List.{List, [], _∷_, flatMap}
-use Prim.Native.Nat.{ℕ, zero, suc, _+_, _-_, _*_, _/_, _%_, _^_, _≤_, _<_}
+use mathlib.Core.Bool.{Bool, true, false, not, _&&_, and-false, and-true}
+use mathlib.Core.List.{List, []}
+use Prim.Native.Nat.{ℕ, _+_, _-_, _*_, _≤_, _<_}
 use native.Mathlib.Nat.{add-zero}
 use native.Mathlib.Omega.{arith}
 use borrow.Author.Tests.{ltb-true, leb-true, le-leb, lt-leb, not-true, not-false}
 use lib.Dec.{leb, ltb}
-use lib.ListN.{length, getD}
+use lib.ListN.{length}
 use Rattle.rules.specs.Lists.{all, range}
-use Rattle.rules.specs.Sizes.{mostBlocks}
 use Rattle.rules.specs.Bytes.{part, bitSet}
 use Rattle.rules.specs.Extent.{Extent, extentBytes, decodeExtent}
 use Rattle.rules.specs.Map.{mapBytes}
 use Rattle.rules.specs.Book.{decodeBook}
 use Rattle.rules.specs.Integrity.{nonePast}
-use Rattle.rules.proofs.ListLaws.{test-cases, clash, and-left, and-right, and-intro, or-left, all-at, all-of, all-weaken, all-append, all-range-at, all-range-of, length-range, getD-range}
+use Rattle.rules.proofs.ListLaws.{test-cases, clash, and-left, and-right, and-intro, or-left, all-at, all-of, all-weaken, all-range-at, all-range-of}
 use Rattle.rules.proofs.BookLaws.{length-decodeBook}
 use Rattle.rules.proofs.PassLaws.{all-and}
 use Rattle.bitmap.specs.Pair.{only, inside}
@@ -126,22 +125,17 @@ module _ {b r : ℕ} {u x : List ℕ} (s : MapsSized b r u x) where
   unfolding mapBytes
   sized-to = omega (arith, s .usedFits)
 
--- a test joined to nothing more
-and-none : (a : Bool) → (a && false) ≡ false
-and-none true = refl
-and-none false = refl
-
 module _ (b r : ℕ) (u x : List ℕ) where
   -- a used bit past the last block
   pub used-past : (m : Bool) → m ≡ all (λ k. not (bitSet u k)) (range b (8 * length u - b)) → not m ≡ true → false ≡ mapsAlone b r u x
   unfolding mapsAlone nonePast
-  used-past m e t = rw (← e, not-true m t, and-none (all (only u x) (range 0 r) && all (inside u x) (range 0 b))) refl
+  used-past m e t = rw (← e, not-true m t, and-false (all (only u x) (range 0 r) && all (inside u x) (range 0 b))) refl
 
   -- a retired one
   pub retired-past : (m : Bool) → m ≡ all (λ k. not (bitSet x k)) (range b (8 * length x - b)) → not m ≡ true → false ≡ mapsAlone b r u x
   unfolding mapsAlone nonePast
   retired-past m e t =
-      rw (← e, not-true m t, and-none (all (λ k. not (bitSet u k)) (range b (8 * length u - b))), and-none (all (only u x) (range 0 r) && all (inside u x) (range 0 b))) refl
+      rw (← e, not-true m t, and-false (all (λ k. not (bitSet u k)) (range b (8 * length u - b))), and-false (all (only u x) (range 0 r) && all (inside u x) (range 0 b))) refl
 
   -- where no retired bit is past the last block, all bits are inside where those of the blocks are
   inside-whole : all (λ k. not (bitSet x k)) (range b (8 * length x - b)) ≡ true → length x ≡ length u → b ≤ 8 * length u → all (inside u x) (range 0 (8 * length u)) ≡ all (inside u x) (range 0 b)
@@ -150,11 +144,7 @@ module _ (b r : ℕ) (u x : List ℕ) where
       all-weaken (inside u x) (λ k. not (bitSet x k)) (range b (8 * length u - b)) (λ k g. unfold inside in or-left (not (bitSet x k)) (bitSet u k) g) (rw e at h) in
       let c : 8 * length u - 0 ≡ 8 * length u = omega arith in
       let a : b - 0 ≡ b = omega arith in
-      (rw (c, a) at (all-two (inside u x) 0 b (8 * length u) (omega arith) l)) ∙ rw p (both (all (inside u x) (range 0 b)))
-    where
-      both : (a : Bool) → (a && true) ≡ a
-      both true = refl
-      both false = refl
+      (rw (c, a) at (all-two (inside u x) 0 b (8 * length u) (omega arith) l)) ∙ rw p (and-true (all (inside u x) (range 0 b)))
 
   module _ (o : Bool) (v : o ≡ all (λ k. not (bitSet x k)) (range b (8 * length x - b))) (w : not o ≡ false) (d : MapsSized b r u x)
       (q : Bool) (i : q ≡ all (inside u x) (range 0 (8 * length u))) where
@@ -165,7 +155,7 @@ module _ (b r : ℕ) (u x : List ℕ) where
     -- a retired block is not used
     pub retired-out : not q ≡ true → false ≡ mapsAlone b r u x
     unfolding mapsAlone
-    retired-out t = rw (← whole, not-true q t, and-none (all (only u x) (range 0 r))) refl
+    retired-out t = rw (← whole, not-true q t, and-false (all (only u x) (range 0 r))) refl
 
     -- it is left to the reserved ones
     pub reserved-last : (m : Bool) → m ≡ all (λ k. not (bitSet u k)) (range b (8 * length u - b)) → not m ≡ false → not q ≡ false
@@ -185,13 +175,9 @@ module _ (b r : ℕ) (u x : List ℕ) (es : List Extent) (m : Bool) (p : m ≡ m
   -- the maps alone are wrong
   pub alone-wrong : not m ≡ true → true ≡ not (mapsRight b r u x es)
   unfolding mapsRight
-  alone-wrong t = rw (← p, not-true m t, and-none (all (extentMappable r u x) es)) refl
+  alone-wrong t = rw (← p, not-true m t, and-false (all (extentMappable r u x) es)) refl
 
   -- it is left to the extents
   pub extents-last : (q : Bool) → not m ≡ false → q ≡ all (extentMappable r u x) es → not q ≡ not (mapsRight b r u x es)
   unfolding mapsRight
-  extents-last q t e = rw (← p, not-false m t, ← e) (last q)
-    where
-      last : (a : Bool) → not a ≡ not (a && true)
-      last true = refl
-      last false = refl
+  extents-last q t e = rw (← p, not-false m t, ← e, and-true q) refl

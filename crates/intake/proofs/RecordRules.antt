@@ -1,20 +1,19 @@
 -- The tests of one record: what each field that was looked at says of the whole.
 -- Assumes nothing.
-use mathlib.Core.Path.{_≡_, refl, sym, ap, _∙_}
-use mathlib.Core.Bool.{Bool, true, false, not, _&&_}
+use mathlib.Core.Path.{_≡_, refl, _∙_}
+use mathlib.Core.Bool.{Bool, true, false, not}
 use mathlib.Core.List.{List}
 use Prim.Native.Nat.{ℕ, _+_, _-_, _*_, _<_}
 use native.Mathlib.Omega.{arith}
-use borrow.Author.Tests.{eq-eqb, ne-eqb, lt-ltb, not-true, not-false}
-use lib.Dec.{eqb, ltb, leb}
+use borrow.Author.Tests.{lt-ltb, not-true, not-false}
+use lib.Dec.{ltb, leb}
 use Rattle.rules.specs.Bytes.{part}
-use Rattle.rules.specs.Card.{cardBytes, decodeCard, cardSpareZero}
+use Rattle.rules.specs.Card.{decodeCard, cardSpareZero}
 use Rattle.rules.specs.Extent.{extentBytes, decodeExtent, extentFixed}
 use Rattle.rules.specs.Group.{groupFixed, absentZero}
 use Rattle.rules.specs.Integrity.{cardTimesRight}
-use Rattle.format.specs.declared.card.Card.{Card}
 use Rattle.format.specs.declared.extent.Extent.{Extent}
-use Rattle.format.specs.Records.{cardOf, extentOf}
+use Rattle.format.specs.Records.{extentOf}
 use Rattle.book.specs.Places.{recordAt, follows}
 use Rattle.intake.specs.BookTests.{cardRight, extentRight, groupRight, recordKept}
 use Rattle.intake.proofs.WalkLaws.{kept-fails, kept-next}
@@ -26,9 +25,9 @@ module _ (p : List ℕ) (m : Bool) where
   card-spare-not e t = rw (← e, not-true m t) refl
 
   -- it is not: the time is left
-  pub card-time : (c : Card) → m ≡ cardSpareZero p → not m ≡ false → cardOf c ≡ decodeCard p → ltb (c .nanoseconds) 1000000000 ≡ cardRight p
-  unfolding cardRight cardTimesRight cardOf
-  card-time c e t q = rw (← e, not-false m t, ← q) refl
+  pub card-time : (x : ℕ) → m ≡ cardSpareZero p → not m ≡ false → x ≡ decodeCard p .changed .nanoseconds → ltb x 1000000000 ≡ cardRight p
+  unfolding cardRight cardTimesRight
+  card-time x e t q = rw (← e, not-false m t, q) refl
 
   -- the fixed bytes are not right
   pub extent-fixed-not : (blocks : ℕ) → m ≡ extentFixed p → not m ≡ true → false ≡ extentRight blocks p

@@ -1,6 +1,5 @@
 -- Refusal 2 on the books, a book at a time, in the words of rules; and as tests of one record after the other, over any width.
 -- Assumes nothing.
-use mathlib.Core.Path.{_≡_}
 use mathlib.Core.List.{List}
 use mathlib.Core.Bool.{Bool, true, _&&_}
 use Prim.Native.Nat.{ℕ, _+_, _-_, _*_, _≤_, _<_}

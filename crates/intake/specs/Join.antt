@@ -19,8 +19,8 @@ use Rattle.intake.specs.MapTests.{MapsSized}
 unfoldable pub storeNumber : Store → ℕ
 storeNumber s = outcomeNumber (firstOf (storeCases s) (accept 0 s []))
 
--- the buffers have room for what the head says: so it is where refusal 1 did not come
-pub record Roomy (head cards extents groups used retired : List ℕ) : Type 0 where
+-- the lengths are right for what the head says: so it is where refusal 1 did not come
+pub record LengthsRight (head cards extents groups used retired : List ℕ) : Type 0 where
   pub headFits : length head ≡ headBytes
   pub cardsFit : cardBytes * decodeHead head .cards ≤ length cards
   pub extentsFit : extentBytes * decodeHead head .extents ≤ length extents

@@ -35,8 +35,7 @@ pub fn card_right(s: &[u8], at: usize) -> bool
     if !format::card::card_spare_zero(s, at) {
         return false;
     }
-    let c = format::card::decode_card(s, at);
-    c.nanoseconds < NANOSECONDS
+    format::card::card_nanoseconds(s, at) < NANOSECONDS
 }
 
 // Whether the card at place `i` is right, and follows the one before it.
@@ -199,8 +198,7 @@ fn card_from(s: &[u8], n: usize, a: usize, object: u64) -> usize
 {
     let mut i = a;
     while i < n {
-        let c = format::card::decode_card(s, CARD_BYTES * i);
-        if object <= c.object {
+        if object <= format::card::card_object(s, CARD_BYTES * i) {
             return i;
         }
         i += 1;
@@ -216,11 +214,11 @@ fn in_file(s: &[u8], n: usize, i: usize, e: Extent) -> bool
     if n <= i {
         return false;
     }
-    let c = format::card::decode_card(s, CARD_BYTES * i);
-    if c.object != e.object {
+    if format::card::card_object(s, CARD_BYTES * i) != e.object {
         return false;
     }
-    e.ends_by((c.size + LAST_BYTE) / BLOCK_BYTES as u64)
+    let size = format::card::card_size(s, CARD_BYTES * i);
+    e.ends_by((size + LAST_BYTE) / BLOCK_BYTES as u64)
 }
 
 // Whether each of `m` extents lies within the blocks of its file's size, and its file is one of `n` cards. Both books ascend, so they are walked side

@@ -11,7 +11,7 @@ ghost use mathlib.Core.Path.{_≡_};
 ghost use mathlib.Core.List.{[]};
 ghost use Rattle.rules.specs.Store.{lent};
 ghost use Rattle.rules.specs.Integrity.{ruleBroken};
-ghost use Rattle.intake.specs.Join.{storeNumber, Roomy};
+ghost use Rattle.intake.specs.Join.{storeNumber, LengthsRight};
 
 // Whether a book or a map breaks a rule. The image is not asked for, as no rule speaks of it.
 pub fn rule_broken(
@@ -22,7 +22,7 @@ pub fn rule_broken(
     used: &[u8],
     retired: &[u8],
 ) -> bool
-    requires { ⌜ Roomy (now head) (now cards) (now extents) (now groups) (now used) (now retired) ⌝ }
+    requires { ⌜ LengthsRight (now head) (now cards) (now extents) (now groups) (now used) (now retired) ⌝ }
     ensures { λ r. ⌜ r ≡ ruleBroken (lent [] (now (head .entry)) (now (cards .entry)) (now (extents .entry)) (now (groups .entry)) (now (used .entry)) (now (retired .entry))) ⌝ }
 {
     let h = format::head::decode_head(head);

@@ -1,7 +1,7 @@
 -- `intake::refused` meets its contract.
 -- Assumes nothing.
 use mathlib.Core.Path.{sym, _∙_}
-use Rattle.intake.proofs.JoinLaws.{roomy, rule-image, number-one, number-two, number-none}
+use Rattle.intake.proofs.JoinLaws.{lengths-right, rule-image, number-one, number-two, number-none}
 use borrow.Author.Needs.{needs}
 use Rattle.intake.proofs.refused.Statement.{statement}
 use Rattle.intake.proofs.refused.Tie as tie
@@ -13,7 +13,7 @@ returns : tie.Need-returns
 returns c = number-one _ _ (c .before .lengths-wrong .ensures) (c .if1 .taken)
 
 rule-broken-requires : tie.Need-rule-broken-requires
-rule-broken-requires c κs = roomy _ (sym (c .before .lengths-wrong .ensures) ∙ c .if1 .left)
+rule-broken-requires c κs = lengths-right _ (sym (c .before .lengths-wrong .ensures) ∙ c .if1 .left)
 
 returns-2 : tie.Need-returns-2
 returns-2 c = number-two _ _ _ (c .before .before .before .lengths-wrong .ensures) (c .before .before .if1 .left) (c .before .rule-broken .ensures ∙ rule-image _ _ _ _ _ _ _ _) (c .if2 .taken)

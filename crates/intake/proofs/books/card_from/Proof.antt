@@ -15,11 +15,11 @@ abbrev μ-loop : tie.MeasureT-loop
 loop-holds : tie.Need-loop-holds Inv-loop μ-loop
 loop-holds c = search (under-none, needs)
 
-mul-decode-card : tie.Need-mul-decode-card Inv-loop μ-loop
-mul-decode-card c = search needs
+mul-card-object : tie.Need-mul-card-object Inv-loop μ-loop
+mul-card-object c = search needs
 
-decode-card-requires : tie.Need-decode-card-requires Inv-loop μ-loop
-decode-card-requires c κs = search needs
+card-object-requires : tie.Need-card-object-requires Inv-loop μ-loop
+card-object-requires c κs = search needs
 
 returns : tie.Need-returns Inv-loop μ-loop
 returns c = search (from-here, needs)
@@ -43,8 +43,8 @@ card-from-spec =
     Inv-loop
     μ-loop
     loop-holds
-    mul-decode-card
-    decode-card-requires
+    mul-card-object
+    card-object-requires
     returns
     add-i
     loop-less

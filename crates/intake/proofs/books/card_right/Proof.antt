@@ -11,12 +11,12 @@ card-spare-zero-requires c κs = search needs
 returns : tie.Need-returns
 returns c = search (card-spare-not, needs)
 
-decode-card-requires : tie.Need-decode-card-requires
-decode-card-requires c κs = search needs
+card-nanoseconds-requires : tie.Need-card-nanoseconds-requires
+card-nanoseconds-requires c κs = search needs
 
 returns-2 : tie.Need-returns-2
 returns-2 c = search (card-time, needs)
 
 pub card-right-spec : {M : Type 1} → statement M
 card-right-spec =
-    tie.close (tie.spec card-spare-zero-requires returns decode-card-requires returns-2)
+    tie.close (tie.spec card-spare-zero-requires returns card-nanoseconds-requires returns-2)

@@ -8,14 +8,20 @@ use Rattle.intake.proofs.books.in_file.Tie as tie
 returns : tie.Need-returns
 returns c = search (file-none, needs)
 
-mul-decode-card : tie.Need-mul-decode-card
-mul-decode-card c = search needs
+mul-card-object : tie.Need-mul-card-object
+mul-card-object c = search needs
 
-decode-card-requires : tie.Need-decode-card-requires
-decode-card-requires c κs = search needs
+card-object-requires : tie.Need-card-object-requires
+card-object-requires c κs = search needs
 
 returns-2 : tie.Need-returns-2
 returns-2 c = search (file-other, needs)
+
+mul-card-size : tie.Need-mul-card-size
+mul-card-size c = search needs
+
+card-size-requires : tie.Need-card-size-requires
+card-size-requires c κs = search needs
 
 add-ends-by : tie.Need-add-ends-by
 add-ends-by c = search needs
@@ -34,9 +40,11 @@ in-file-spec =
     tie.close
     (tie.spec
     returns
-    mul-decode-card
-    decode-card-requires
+    mul-card-object
+    card-object-requires
     returns-2
+    mul-card-size
+    card-size-requires
     add-ends-by
     div-ends-by
     ends-by-requires
