@@ -6,6 +6,7 @@ use mathlib.Core.List.{List, [], _∷_, _++_, flatMap}
 use Prim.Native.Nat.{ℕ, _+_, _-_, _%_, _≤_, _<_}
 use lib.Dec.{ltb}
 use lib.ListN.{length, take, getD}
+use Rattle.rules.specs.Sizes.{unitBlocks}
 use Rattle.rules.specs.Lists.{if_then_else_, range, filter, insert}
 use Rattle.rules.specs.Bytes.{bitSet}
 use Rattle.rules.specs.Allocation.{allocationGroups, groupStart, groupEnd}
@@ -50,10 +51,10 @@ bitsFrom map blocks hint past i =
 abbrev pub held : Taken → List ℕ
 held t = take (t .count) (t .blocks)
 
--- they are at most so many, and stand in an array of 16
+-- they are at most so many, and stand in an array of a unit's
 pub record Room (most : ℕ) (t : Taken) : Type 0 where
   pub fits : t .count ≤ most
-  pub places : length (t .blocks) ≡ 16
+  pub places : length (t .blocks) ≡ unitBlocks
 
 -- each of them is below a bound
 pub record Within (bound : ℕ) (t : Taken) : Type 0 where
@@ -68,10 +69,10 @@ pub record Collected (want : ℕ) (ys zs : List ℕ) (r : Taken) : Type 0 where
 pub record Inserted (b : ℕ) (t r : Taken) : Type 0 where
   pub list : held r ≡ insert ltb b (held t)
   pub count : r .count ≡ t .count + 1
-  pub places : length (r .blocks) ≡ 16
+  pub places : length (r .blocks) ≡ unitBlocks
 
 -- those that were held, ascending
 pub record Sorted (t r : Taken) : Type 0 where
   pub list : held r ≡ inserts [] (held t)
   pub count : r .count ≡ t .count
-  pub places : length (r .blocks) ≡ 16
+  pub places : length (r .blocks) ≡ unitBlocks

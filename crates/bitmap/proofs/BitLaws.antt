@@ -174,7 +174,7 @@ bit-cleared x k h l =
 -- ---- a word of bytes
 
 -- low bits below what is added above them
-bit-below : (w x y j : ℕ) → j < w → bitOf (x + 2 ^ w * y) j ≡ bitOf x j
+pub bit-below : (w x y j : ℕ) → j < w → bitOf (x + 2 ^ w * y) j ≡ bitOf x j
 bit-below zero x y j h = absurd (not-suc-le-zero h)
 bit-below (suc w) x y zero h =
     let p : 2 ^ suc w * y ≡ 2 ^ w * y * 2 = rw (pow-suc 2 w, mul-assoc (2 ^ w) 2 y, mul-comm 2 y, ← mul-assoc (2 ^ w) y 2) refl in

@@ -1,2 +1,4 @@
 pub mod BitLaws
 pub mod MapLaws
+pub mod PairLaws
+pub mod DifferenceLaws

@@ -2,6 +2,11 @@
 //
 // A range of 64 bits or more is taken in three parts: bit by bit to a byte's edge, then in words of 64 bits, then what is left bit by bit. The words
 // have loops of their own, with no test in them but the one that is asked for, so that they run at the speed of memory.
+//
+// The modules beside: `pair` compares two maps, `difference` takes the bits of one from another.
+pub mod difference;
+pub mod pair;
+
 ghost use mathlib.Core.Path.{_≡_};
 ghost use mathlib.Core.Bool.{Bool, true, false, not};
 ghost use Prim.Native.Nat.{ℕ, _+_, _-_, _*_, _%_, _^_, _≤_, _<_};

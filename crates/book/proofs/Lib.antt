@@ -1,3 +1,4 @@
 pub mod SearchLaws
 pub mod OrderLaws
 pub mod SpliceLaws
+pub mod InsertLaws

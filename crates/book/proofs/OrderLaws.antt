@@ -125,9 +125,9 @@ module _ (e f : Extent) (m : Bool) (p : m ≡ extentBefore e f) where
   follows-not t = rw (← p, not-true m t) refl
 
   -- in order: it is left to the overlap
-  pub follows-clear : (o : Bool) → not m ≡ false → o ≡ apart e f → o ≡ follows e f
+  pub follows-apart : (o : Bool) → not m ≡ false → o ≡ apart e f → o ≡ follows e f
   unfolding follows
-  follows-clear o t q = rw (← p, not-false m t, ← q) refl
+  follows-apart o t q = rw (← p, not-false m t, ← q) refl
 
 -- the keys of two groups
 pub groups-pair : (s : List ℕ) (i a b c d : ℕ) (m : Bool) → a ≡ decodeGroup (part (1073 * (i - 1)) groupBytes s) .object → b ≡ decodeGroup (part (1073 * (i - 1)) groupBytes s) .number

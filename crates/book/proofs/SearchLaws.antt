@@ -25,7 +25,7 @@ use Rattle.format.specs.declared.extent.Extent.{Extent as ExtentStruct}
 use Rattle.format.specs.Records.{cardOf, extentOf}
 use Rattle.book.specs.declared.Found.{Found}
 use Rattle.book.specs.declared.Found.the-variants.{At, Nothing}
-use Rattle.book.specs.Places.{recordAt, foundIn, placeOf, firstPlace, lastPlace, leading, FoundFirst, LastExtent, cardIs, cardUnder, extentUnder, extentUpTo, groupIs, groupUnder}
+use Rattle.book.specs.Places.{recordAt, foundIn, placeOf, firstPlace, lastPlace, leading, FoundFirst, FloorExtent, cardIs, cardUnder, extentUnder, extentUpTo, groupIs, groupUnder}
 
 -- ---- lists
 
@@ -229,9 +229,9 @@ module _ {A : Type 0} (decode : List ℕ → A) (w : ℕ) (s : List ℕ) where
           sym (leading-is f (decode []) b n (omega arith) (λ j k. test-at n j true k (h j (omega arith))) (λ k. absurd (omega arith)))
 
 -- of extents up to a block that is the last one from there
-pub last-extent : (object block n : ℕ) (s : List ℕ) (r : Found) → FoundLast (extentUpTo object block) decodeExtent extentBytes n s r → LastExtent object block n s r
+pub floor-extent : (object block n : ℕ) (s : List ℕ) (r : Found) → FoundLast (extentUpTo object block) decodeExtent extentBytes n s r → FloorExtent object block n s r
 unfolding floorExtent
-last-extent object block n s r h = record { place = h .place; found = h .found; within = h .within }
+floor-extent object block n s r h = record { place = h .place; found = h .found; within = h .within }
 
 -- ---- the tests of one record
 

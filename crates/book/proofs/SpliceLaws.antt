@@ -2,13 +2,13 @@
 -- Assumes nothing.
 use mathlib.Core.Path.{_≡_, refl, sym, ap, _∙_}
 use mathlib.Core.Bool.{true}
-use mathlib.Core.List.{List, _++_, append-assoc, append-nil}
-use Prim.Native.Nat.{ℕ, _+_, _-_, _*_, _≤_, _<_}
+use mathlib.Core.List.{List, [], _∷_, _++_, map, append-assoc, append-nil, map-append}
+use Prim.Native.Nat.{ℕ, zero, suc, _+_, _-_, _*_, _≤_, _<_}
 use native.Mathlib.Nat.{mul-add}
 use native.Mathlib.Omega.{arith}
 use lib.ListN.{length, take, drop, replicate, length-append, length-replicate}
 use lib.Seq.{take-at, drop-at, drop-drop}
-use Rattle.rules.specs.Bytes.{part, patch, allZero}
+use Rattle.rules.specs.Bytes.{part, patch, pieces, allZero}
 use Rattle.rules.specs.Book.{decodeBook, zeroBehind}
 use Rattle.rules.proofs.ByteLaws.{length-part, length-patch, take-patch, drop-patch, drop-patch-behind, patch-before, patch-part, patch-patch, allZero-append, allZero-drop, allZero-replicate}
 use Rattle.rules.proofs.BookLaws.{decodeBook-same, decodeBook-patch, take-decodeBook, drop-decodeBook}
@@ -56,9 +56,11 @@ zero-is w n s = refl
 
 module _ {A : Type 0} (decode : List ℕ → A) (w n i k m : ℕ) (s x t : List ℕ) (l : i + k ≤ n) (lx : length x ≡ w * m) (h : w * n ≤ length s) (h′ : w * (n - k + m) ≤ length s)
     (e : t ≡ patch s (w * i) (x ++ (part (w * (i + k)) (w * n - w * (i + k)) s ++ replicate (w * (i + k) - (w * i + length x)) 0))) where
-  -- an exchange in a book: r records stand behind those that go, and they go to the place that is called to
-  pub spliced : Spliced decode w n i k m s x t
-  spliced =
+  -- the records, decoded; zeros; and the length. r records stand behind those that go, and they go to the place that is called to
+  spliced-decoded : (decodeBook decode w (n - k + m) t ≡ take i (decodeBook decode w n s) ++ decodeBook decode w m x ++ drop (i + k) (decodeBook decode w n s))
+      × (zeroBehind w n s ≡ true → zeroBehind w (n - k + m) t ≡ true)
+      × (length t ≡ length s)
+  spliced-decoded =
       let r : ℕ = n - (i + k) in
       let to : ℕ = w * i + length x in
       let e1 : w * (i + k) ≡ w * i + w * k = mul-add w i k in
@@ -93,16 +95,51 @@ module _ {A : Type 0} (decode : List ℕ → A) (w n i k m : ℕ) (s x t : List 
       ∙ ap (λ (a : ℕ). allZero (drop a t)) e6
       ∙ ap (λ (b : List ℕ). allZero (drop (to + w * r) b)) e′
       ∙ ap allZero (drop-patch-behind moved (w * i) (to + w * r) x (omega arith) (omega arith) ∙ sym (drop-drop (w * r) to moved) ∙ ap (drop (w * r)) behind ∙ drop-at tail (z ++ rest) (w * r) lt)
-      ∙ allZero-append z rest (allZero-replicate (w * (i + k) - to)) (zero-rest (to + length (tail ++ z)) (omega arith) (sym (zero-is w n s) ∙ zb)) in
-      record {
-        records =
-            ap (λ (a : ℕ). decodeBook decode w a t) n4 ∙ ap (decodeBook decode w (i + (m + r))) e′ ∙ decodeBook-patch decode w i m r moved x lx (omega arith)
-            ∙ rw (front, back) (sym (append-assoc (take i (decodeBook decode w n s)) (decodeBook decode w m x) (drop (i + k) (decodeBook decode w n s))));
-        zeros = zeros;
-        size = ap length e′ ∙ length-patch moved (w * i) x (omega arith) ∙ lm;
-      }
+      ∙ allZero-append z rest (allZero-replicate (w * (i + k) - to)) (zero-rest (to + length (tail ++ z)) (omega arith) (sym (zero-is w n s) ∙ zb)) in (
+        ap (λ (a : ℕ). decodeBook decode w a t) n4 ∙ ap (decodeBook decode w (i + (m + r))) e′ ∙ decodeBook-patch decode w i m r moved x lx (omega arith)
+            ∙ rw (front, back) (sym (append-assoc (take i (decodeBook decode w n s)) (decodeBook decode w m x) (drop (i + k) (decodeBook decode w n s)))),
+        zeros,
+        ap length e′ ∙ length-patch moved (w * i) x (omega arith) ∙ lm,
+      )
     where
       zero-rest : (a : ℕ) → w * n ≤ a → allZero (drop (w * n) s) ≡ true → allZero (drop a s) ≡ true
       zero-rest a g zb =
           let q : w * n + (a - w * n) ≡ a = omega arith in
           ap (λ (b : ℕ). allZero (drop b s)) (sym q) ∙ ap allZero (sym (drop-drop (a - w * n) (w * n) s)) ∙ allZero-drop (a - w * n) (drop (w * n) s) zb
+
+-- records that are not decoded are the pieces
+pieces-are : (w n : ℕ) (s : List ℕ) → decodeBook (λ p. p) w n s ≡ pieces w n s
+unfolding decodeBook
+pieces-are w n s = same (pieces w n s)
+  where
+    same : (ps : List (List ℕ)) → map (λ p. p) ps ≡ ps
+    same [] = refl
+    same (p ∷ ps) = ap (λ (qs : List (List ℕ)). p ∷ qs) (same ps)
+
+-- an exchange in a book
+pub spliced : (w n i k m : ℕ) (s x t : List ℕ) → i + k ≤ n → length x ≡ w * m → w * n ≤ length s → w * (n - k + m) ≤ length s
+    → t ≡ patch s (w * i) (x ++ (part (w * (i + k)) (w * n - w * (i + k)) s ++ replicate (w * (i + k) - (w * i + length x)) 0)) → Spliced w n i k m s x t
+spliced w n i k m s x t l lx h h′ e =
+    let r = spliced-decoded (λ p. p) w n i k m s x t l lx h h′ e in
+    record { records = rw (pieces-are w (n - k + m) t, pieces-are w n s, pieces-are w m x) at (r .0); zeros = r .1; size = r .2 }
+
+-- the first of what is put through a function
+take-through : {A B : Type 0} (f : A → B) (i : ℕ) (xs : List A) → map f (take i xs) ≡ take i (map f xs)
+take-through f zero xs = refl
+take-through f (suc i) [] = refl
+take-through f (suc i) (x ∷ xs) = ap (λ (ys : List _). f x ∷ ys) (take-through f i xs)
+
+-- the others
+drop-through : {A B : Type 0} (f : A → B) (i : ℕ) (xs : List A) → map f (drop i xs) ≡ drop i (map f xs)
+drop-through f zero xs = refl
+drop-through f (suc i) [] = refl
+drop-through f (suc i) (x ∷ xs) = drop-through f i xs
+
+-- so it is with the records that they say
+pub spliced-records : {A : Type 0} (decode : List ℕ → A) (w n i k m : ℕ) (s x t : List ℕ) → Spliced w n i k m s x t
+    → decodeBook decode w (n - k + m) t ≡ take i (decodeBook decode w n s) ++ decodeBook decode w m x ++ drop (i + k) (decodeBook decode w n s)
+unfolding decodeBook
+spliced-records decode w n i k m s x t e =
+    ap (map decode) (e .records)
+    ∙ map-append decode (take i (pieces w n s) ++ pieces w m x) (drop (i + k) (pieces w n s))
+    ∙ rw (map-append decode (take i (pieces w n s)) (pieces w m x), take-through decode i (pieces w n s), drop-through decode (i + k) (pieces w n s)) refl

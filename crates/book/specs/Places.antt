@@ -8,7 +8,7 @@ use Prim.Native.Nat.{ℕ, suc, _+_, _-_, _*_, _<_}
 use lib.Dec.{eqb, leb, ltb}
 use lib.ListN.{length, take, drop}
 use Rattle.rules.specs.Lists.{if_then_else_, maybe, find, pairBefore}
-use Rattle.rules.specs.Bytes.{part}
+use Rattle.rules.specs.Bytes.{part, pieces}
 use Rattle.rules.specs.Card.{Card}
 use Rattle.rules.specs.Extent.{Extent, extentBytes, decodeExtent, extentBefore}
 use Rattle.rules.specs.Group.{Group}
@@ -74,7 +74,7 @@ abbrev pub extentUpTo : ℕ → ℕ → Extent → Bool
 extentUpTo object block e = eqb (e .object) object && leb (e .logical) block
 
 -- the last extent of an object that starts at a block or before was found, as the rules have it, and at its place
-pub record LastExtent (object block n : ℕ) (s : List ℕ) (r : Found) : Type 0 where
+pub record FloorExtent (object block n : ℕ) (s : List ℕ) (r : Found) : Type 0 where
   pub place : placeOf r ≡ lastPlace (extentUpTo object block) (decodeBook decodeExtent extentBytes n s)
   pub found : foundIn decodeExtent extentBytes s r ≡ floorExtent (decodeBook decodeExtent extentBytes n s) object block
   pub within : (i : ℕ) → placeOf r ≡ some i → i < n
@@ -93,8 +93,8 @@ follows e f = extentBefore e f && apart e f
 
 -- ---- an exchange
 
--- of n records in s, the k from place i on are the m of x in t; zeros that stood behind the last record stand there still
-pub record Spliced {A : Type 0} (decode : List ℕ → A) (w n i k m : ℕ) (s x t : List ℕ) : Type 0 where
-  pub records : decodeBook decode w (n - k + m) t ≡ take i (decodeBook decode w n s) ++ decodeBook decode w m x ++ drop (i + k) (decodeBook decode w n s)
+-- of n records of w bytes in s, the k from place i on are the m of x in t; zeros that stood behind the last record stand there still
+pub record Spliced (w n i k m : ℕ) (s x t : List ℕ) : Type 0 where
+  pub records : pieces w (n - k + m) t ≡ take i (pieces w n s) ++ pieces w m x ++ drop (i + k) (pieces w n s)
   pub zeros : zeroBehind w n s ≡ true → zeroBehind w (n - k + m) t ≡ true
   pub size : length t ≡ length s

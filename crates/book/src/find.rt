@@ -4,19 +4,23 @@ ghost use mathlib.Core.Bool.{true};
 ghost use Prim.Native.Nat.{_+_, _*_, _≤_, _<_};
 ghost use lib.ListN.{length};
 ghost use Rattle.rules.specs.Lists.{ascending};
+ghost use Rattle.rules.specs.Sizes.{mostPlaces};
 ghost use Rattle.rules.specs.Card.{cardBytes, decodeCard, cardBefore};
 ghost use Rattle.rules.specs.Extent.{extentBytes, decodeExtent, extentBefore, covers};
 ghost use Rattle.rules.specs.Group.{groupBytes, decodeGroup, groupBefore};
 ghost use Rattle.rules.specs.Book.{decodeBook};
-ghost use Rattle.book.specs.Places.{recordAt, FoundFirst, LastExtent, leading, cardIs, cardUnder, extentUnder, extentUpTo, groupIs, groupUnder};
+ghost use Rattle.book.specs.Places.{recordAt, FoundFirst, FloorExtent, leading, cardIs, cardUnder, extentUnder, extentUpTo, groupIs, groupUnder};
 use super::Found;
+use format::card::CARD_BYTES;
+use format::extent::EXTENT_BYTES;
+use format::group::GROUP_BYTES;
 
 // Whether the card at place `i` is that of `object`.
 fn card_is(s: &[u8], i: usize, object: u64) -> bool
     requires { ⌜ cardBytes * i + cardBytes ≤ length (now s) ⌝ }
     ensures { λ r. ⌜ r ≡ cardIs object (recordAt decodeCard cardBytes (now (s .entry)) i) ⌝ }
 {
-    let c = format::card::decode_card(s, 32 * i);
+    let c = format::card::decode_card(s, CARD_BYTES * i);
     c.object == object
 }
 
@@ -40,7 +44,7 @@ fn group_is(s: &[u8], i: usize, object: u64, number: u64) -> bool
     requires { ⌜ groupBytes * i + groupBytes ≤ length (now s) ⌝ }
     ensures { λ r. ⌜ r ≡ groupIs object number (recordAt decodeGroup groupBytes (now (s .entry)) i) ⌝ }
 {
-    let at = 1073 * i;
+    let at = GROUP_BYTES * i;
     if format::group::group_object(s, at) != object {
         return false;
     }
@@ -67,18 +71,19 @@ fn extent_up_to(s: &[u8], i: usize, object: u64, block: u64) -> bool
     requires { ⌜ extentBytes * i + extentBytes ≤ length (now s) ⌝ }
     ensures { λ r. ⌜ r ≡ extentUpTo object block (recordAt decodeExtent extentBytes (now (s .entry)) i) ⌝ }
 {
-    let e = format::extent::decode_extent(s, 33 * i);
+    let e = format::extent::decode_extent(s, EXTENT_BYTES * i);
     if e.object != object {
         return false;
     }
     e.logical <= block
 }
 
-// The last of the first `n` extents that is one of `object` and starts at `block` or before. The scan goes from the end: the first that
-// it meets is the last.
-pub fn last_from(s: &[u8], n: usize, object: u64, block: u64) -> Found
+// The floor of `block` among the first `n` extents: the last that is one of `object` and starts at `block` or before. The scan goes from the
+// end: the first that it meets is the last.
+pub fn floor_extent(s: &[u8], n: usize, object: u64, block: u64) -> Found
     requires { ⌜ extentBytes * n ≤ length (now s) ⌝ }
-    ensures { λ r. ⌜ (ascending extentBefore (decodeBook decodeExtent extentBytes n (now (s .entry))) ≡ true → LastExtent object block n (now (s .entry)) r) ⌝ }
+    requires { ⌜ n ≤ mostPlaces ⌝ }
+    ensures { λ r. ⌜ (ascending extentBefore (decodeBook decodeExtent extentBytes n (now (s .entry))) ≡ true → FloorExtent object block n (now (s .entry)) r) ⌝ }
 {
     let mut i = n;
     while 0 < i {
@@ -95,7 +100,7 @@ fn extent_covers(s: &[u8], i: usize, object: u64, block: u64) -> bool
     requires { ⌜ extentBytes * i + extentBytes ≤ length (now s) ⌝ }
     ensures { λ r. ⌜ r ≡ covers object block (recordAt decodeExtent extentBytes (now (s .entry)) i) ⌝ }
 {
-    let e = format::extent::decode_extent(s, 33 * i);
+    let e = format::extent::decode_extent(s, EXTENT_BYTES * i);
     e.covers(object, block)
 }
 
@@ -119,7 +124,7 @@ fn card_under(s: &[u8], i: usize, object: u64) -> bool
     requires { ⌜ cardBytes * i + cardBytes ≤ length (now s) ⌝ }
     ensures { λ r. ⌜ r ≡ cardUnder object (recordAt decodeCard cardBytes (now (s .entry)) i) ⌝ }
 {
-    let c = format::card::decode_card(s, 32 * i);
+    let c = format::card::decode_card(s, CARD_BYTES * i);
     c.object < object
 }
 
@@ -143,7 +148,7 @@ fn extent_under(s: &[u8], i: usize, object: u64, logical: u64) -> bool
     requires { ⌜ extentBytes * i + extentBytes ≤ length (now s) ⌝ }
     ensures { λ r. ⌜ r ≡ extentUnder object logical (recordAt decodeExtent extentBytes (now (s .entry)) i) ⌝ }
 {
-    let e = format::extent::decode_extent(s, 33 * i);
+    let e = format::extent::decode_extent(s, EXTENT_BYTES * i);
     format::key::before(e.object, e.logical, object, logical)
 }
 
@@ -167,7 +172,7 @@ fn group_under(s: &[u8], i: usize, object: u64, number: u64) -> bool
     requires { ⌜ groupBytes * i + groupBytes ≤ length (now s) ⌝ }
     ensures { λ r. ⌜ r ≡ groupUnder object number (recordAt decodeGroup groupBytes (now (s .entry)) i) ⌝ }
 {
-    let at = 1073 * i;
+    let at = GROUP_BYTES * i;
     format::key::before(
         format::group::group_object(s, at),
         format::group::group_number(s, at),

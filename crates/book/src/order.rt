@@ -12,7 +12,10 @@ ghost use Rattle.rules.specs.Book.{decodeBook, zeroBehind};
 ghost use Rattle.rules.specs.Integrity.{apart};
 ghost use Rattle.format.specs.Records.{extentOf};
 ghost use Rattle.book.specs.Places.{recordAt, follows};
+use format::card::CARD_BYTES;
+use format::extent::EXTENT_BYTES;
 use format::extent::Extent;
+use format::group::GROUP_BYTES;
 
 // Whether zeros stand behind the first `used` bytes.
 fn zero_from(s: &[u8], used: usize) -> bool
@@ -27,7 +30,7 @@ pub fn cards_packed(s: &[u8], n: usize) -> bool
     requires { ⌜ cardBytes * n ≤ length (now s) ⌝ }
     ensures { λ r. ⌜ r ≡ zeroBehind cardBytes n (now (s .entry)) ⌝ }
 {
-    zero_from(s, 32 * n)
+    zero_from(s, CARD_BYTES * n)
 }
 
 // Whether zeros stand behind the last of `n` extents.
@@ -35,7 +38,7 @@ pub fn extents_packed(s: &[u8], n: usize) -> bool
     requires { ⌜ extentBytes * n ≤ length (now s) ⌝ }
     ensures { λ r. ⌜ r ≡ zeroBehind extentBytes n (now (s .entry)) ⌝ }
 {
-    zero_from(s, 33 * n)
+    zero_from(s, EXTENT_BYTES * n)
 }
 
 // Whether zeros stand behind the last of `n` groups.
@@ -43,17 +46,17 @@ pub fn groups_packed(s: &[u8], n: usize) -> bool
     requires { ⌜ groupBytes * n ≤ length (now s) ⌝ }
     ensures { λ r. ⌜ r ≡ zeroBehind groupBytes n (now (s .entry)) ⌝ }
 {
-    zero_from(s, 1073 * n)
+    zero_from(s, GROUP_BYTES * n)
 }
 
 // Whether the card at place `i` follows the one before it.
-fn card_follows(s: &[u8], i: usize) -> bool
+pub fn card_follows(s: &[u8], i: usize) -> bool
     requires { ⌜ 0 < i ⌝ }
     requires { ⌜ cardBytes * i + cardBytes ≤ length (now s) ⌝ }
     ensures { λ r. ⌜ r ≡ cardBefore (recordAt decodeCard cardBytes (now (s .entry)) (i - 1)) (recordAt decodeCard cardBytes (now (s .entry)) i) ⌝ }
 {
-    let c = format::card::decode_card(s, 32 * (i - 1));
-    let d = format::card::decode_card(s, 32 * i);
+    let c = format::card::decode_card(s, CARD_BYTES * (i - 1));
+    let d = format::card::decode_card(s, CARD_BYTES * i);
     c.before(d)
 }
 
@@ -73,13 +76,13 @@ pub fn cards_ordered(s: &[u8], n: usize) -> bool
 }
 
 // Whether the group at place `i` follows the one before it.
-fn group_follows(s: &[u8], i: usize) -> bool
+pub fn group_follows(s: &[u8], i: usize) -> bool
     requires { ⌜ 0 < i ⌝ }
     requires { ⌜ groupBytes * i + groupBytes ≤ length (now s) ⌝ }
     ensures { λ r. ⌜ r ≡ groupBefore (recordAt decodeGroup groupBytes (now (s .entry)) (i - 1)) (recordAt decodeGroup groupBytes (now (s .entry)) i) ⌝ }
 {
-    let a = 1073 * (i - 1);
-    let b = 1073 * i;
+    let a = GROUP_BYTES * (i - 1);
+    let b = GROUP_BYTES * i;
     format::key::before(
         format::group::group_object(s, a),
         format::group::group_number(s, a),
@@ -104,13 +107,13 @@ pub fn groups_ordered(s: &[u8], n: usize) -> bool
 }
 
 // Whether an extent stands before the next and keeps apart from it.
-fn extent_follows(e: Extent, next: Extent) -> bool
+pub fn extent_follows(e: Extent, next: Extent) -> bool
     ensures { λ r. ⌜ r ≡ follows (extentOf e) (extentOf next) ⌝ }
 {
     if !e.before(next) {
         return false;
     }
-    e.clear(next)
+    e.apart(next)
 }
 
 // Whether the first `n` extents ascend by key and keep apart from each other. Each is decoded once: the one before is kept.
@@ -124,7 +127,7 @@ pub fn extents_ordered(s: &[u8], n: usize) -> bool
     let mut last = format::extent::decode_extent(s, 0);
     let mut i: usize = 1;
     while i < n {
-        let next = format::extent::decode_extent(s, 33 * i);
+        let next = format::extent::decode_extent(s, EXTENT_BYTES * i);
         if !extent_follows(last, next) {
             return false;
         }

@@ -4,10 +4,13 @@ ghost use mathlib.Core.List.{_++_};
 ghost use Prim.Native.Nat.{_+_, _-_, _*_, _≤_, _<_};
 ghost use lib.ListN.{length, replicate};
 ghost use Rattle.rules.specs.Bytes.{part, patch};
-ghost use Rattle.rules.specs.Card.{cardBytes, decodeCard};
-ghost use Rattle.rules.specs.Extent.{extentBytes, decodeExtent};
-ghost use Rattle.rules.specs.Group.{groupBytes, decodeGroup};
+ghost use Rattle.rules.specs.Card.{cardBytes};
+ghost use Rattle.rules.specs.Extent.{extentBytes};
+ghost use Rattle.rules.specs.Group.{groupBytes};
 ghost use Rattle.book.specs.Places.{Spliced};
+use format::card::CARD_BYTES;
+use format::extent::EXTENT_BYTES;
+use format::group::GROUP_BYTES;
 
 // The bytes from `b` to `e` go down to `t`, and zeros stand behind them up to `e`.
 fn move_down(s: &mut [u8], b: usize, e: usize, t: usize)
@@ -45,25 +48,37 @@ pub fn splice(s: &mut [u8], a: usize, b: usize, e: usize, x: &[u8])
 pub fn splice_cards(s: &mut [u8], n: usize, i: usize, k: usize, x: &[u8], m: usize)
     requires { ⌜ (i + k ≤ n) × (length (now x) ≡ cardBytes * m) ⌝ }
     requires { ⌜ (cardBytes * n ≤ length (now s)) × (cardBytes * (n - k + m) ≤ length (now s)) ⌝ }
-    ensures { λ _. ⌜ Spliced decodeCard cardBytes n i k m (now (s .entry)) (now (x .entry)) (now (s .exit)) ⌝ }
+    ensures { λ _. ⌜ Spliced cardBytes n i k m (now (s .entry)) (now (x .entry)) (now (s .exit)) ⌝ }
 {
-    splice(s, 32 * i, 32 * (i + k), 32 * n, x);
+    splice(s, CARD_BYTES * i, CARD_BYTES * (i + k), CARD_BYTES * n, x);
 }
 
 // In a book of `n` extents, the `k` from place `i` on exchanged for the `m` in `x`.
 pub fn splice_extents(s: &mut [u8], n: usize, i: usize, k: usize, x: &[u8], m: usize)
     requires { ⌜ (i + k ≤ n) × (length (now x) ≡ extentBytes * m) ⌝ }
     requires { ⌜ (extentBytes * n ≤ length (now s)) × (extentBytes * (n - k + m) ≤ length (now s)) ⌝ }
-    ensures { λ _. ⌜ Spliced decodeExtent extentBytes n i k m (now (s .entry)) (now (x .entry)) (now (s .exit)) ⌝ }
+    ensures { λ _. ⌜ Spliced extentBytes n i k m (now (s .entry)) (now (x .entry)) (now (s .exit)) ⌝ }
 {
-    splice(s, 33 * i, 33 * (i + k), 33 * n, x);
+    splice(
+        s,
+        EXTENT_BYTES * i,
+        EXTENT_BYTES * (i + k),
+        EXTENT_BYTES * n,
+        x,
+    );
 }
 
 // In a book of `n` groups, the `k` from place `i` on exchanged for the `m` in `x`.
 pub fn splice_groups(s: &mut [u8], n: usize, i: usize, k: usize, x: &[u8], m: usize)
     requires { ⌜ (i + k ≤ n) × (length (now x) ≡ groupBytes * m) ⌝ }
     requires { ⌜ (groupBytes * n ≤ length (now s)) × (groupBytes * (n - k + m) ≤ length (now s)) ⌝ }
-    ensures { λ _. ⌜ Spliced decodeGroup groupBytes n i k m (now (s .entry)) (now (x .entry)) (now (s .exit)) ⌝ }
+    ensures { λ _. ⌜ Spliced groupBytes n i k m (now (s .entry)) (now (x .entry)) (now (s .exit)) ⌝ }
 {
-    splice(s, 1073 * i, 1073 * (i + k), 1073 * n, x);
+    splice(
+        s,
+        GROUP_BYTES * i,
+        GROUP_BYTES * (i + k),
+        GROUP_BYTES * n,
+        x,
+    );
 }

@@ -3,3 +3,8 @@ pub mod RegisterLaws
 pub mod Division
 pub mod TableRule
 pub mod Running
+pub mod HistoryLaws
+pub mod Multiple
+pub mod LatestLaws
+pub mod WindowLaws
+pub mod UnitLaws

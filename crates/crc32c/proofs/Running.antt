@@ -11,6 +11,7 @@ use Rattle.rules.specs.Checksum.{unitChecksum}
 use Rattle.rules.proofs.ByteLaws.{length-beDigits, bytes-beDigits, bytes-append, patch-patch}
 use Rattle.words.proofs.NumberLaws.{patch-whole}
 use Rattle.crc32c.specs.Register.{fed, begun, finished}
+use Rattle.crc32c.specs.Unit.{before}
 use Rattle.crc32c.proofs.RegisterLaws.{fed-append}
 use Rattle.crc32c.proofs.Division.{crc32c-fed}
 
@@ -25,10 +26,6 @@ crc-whole c d r s p q e b = e ∙ rw (q, p) (crc32c-fed s b)
 -- the last part
 pub crc-parts : (c d r : ℕ) (xs ys : List ℕ) → c ≡ fed begun xs → d ≡ fed c ys → r ≡ finished d → Bytes xs → Bytes ys → r ≡ crc32c (xs ++ ys)
 crc-parts c d r xs ys p q e bx by = e ∙ rw (fed-more c d xs ys p q) (crc32c-fed (xs ++ ys) (bytes-append xs ys bx by))
-
--- what stands before a unit's valid bytes
-abbrev pub before : List ℕ → ℕ → ℕ → ℕ → List ℕ
-before uuid object unit valid = uuid ++ beDigits 8 object ++ beDigits 8 unit ++ beDigits 4 valid
 
 bytes-before : (uuid : List ℕ) (object unit valid : ℕ) → Bytes uuid → Bytes (before uuid object unit valid)
 bytes-before uuid object unit valid b =

@@ -1,8 +1,11 @@
-// CRC-32C by tables, sixteen bytes at once, and the checksum of a unit.
+// CRC-32C and the checksum of a unit: by tables, sixteen bytes at once, and for more than some bytes through a window (`window`), which leaves the
+// tables a short message. `unit` has the checksum of a unit that comes in pieces.
 //
 // A caller begins, feeds parts, and finishes: `crc-parts` of proofs/Running.antt turns that into the checksum of the concatenation.
 // `tables` hands the tables out once: a constant that is indexed is copied at each use, so they go down by reference.
 mod table;
+pub mod unit;
+pub mod window;
 
 ghost use mathlib.Core.Path.{_≡_};
 ghost use mathlib.Core.List.{_++_};
@@ -100,13 +103,35 @@ pub fn begin() -> u32
     0xffff_ffff
 }
 
-// The state after `s` more.
-pub fn feed(t: &[u32; 4096], state: u32, s: &[u8]) -> u32
+// The state after `s` more, by the tables alone.
+pub fn feed_tables(t: &[u32; 4096], state: u32, s: &[u8]) -> u32
     requires { ⌜ Tables (now t) ⌝ }
     ensures { λ r. ⌜ r ≡ fed state (now (s .entry)) ⌝ }
 {
     let c = feed_pairs(t, state, s);
     feed_rest(t, c, s, s.len() / 16 * 16)
+}
+
+// The same through a window. The clearing of the window and the 528 bytes left for the tables cost as much as the tables do for about 1,000 bytes.
+fn feed_window(t: &[u32; 4096], state: u32, s: &[u8]) -> u32
+    requires { ⌜ Tables (now t) ⌝ }
+    ensures { λ r. ⌜ r ≡ fed state (now (s .entry)) ⌝ }
+{
+    let mut w = [0u8; 4624];
+    window::set_register(&mut w, state);
+    window::push(&mut w, s);
+    window::register(t, &w)
+}
+
+// The state after `s` more, by the way that is faster for so many bytes.
+pub fn feed(t: &[u32; 4096], state: u32, s: &[u8]) -> u32
+    requires { ⌜ Tables (now t) ⌝ }
+    ensures { λ r. ⌜ r ≡ fed state (now (s .entry)) ⌝ }
+{
+    if s.len() < 1280 {
+        return feed_tables(t, state, s);
+    }
+    feed_window(t, state, s)
 }
 
 // The checksum of what the state was fed.

@@ -1,12 +1,12 @@
 -- Laws of records read at their place and written there: each is what one function of the code has in hand when it returns.
 -- Assumes nothing.
 use mathlib.Core.Path.{_≡_, refl, sym, ap, _∙_}
-use mathlib.Core.Bool.{Bool, false}
+use mathlib.Core.Bool.{Bool, true, false, _&&_}
 use mathlib.Core.List.{List, [], _∷_, _++_, append-assoc}
-use Prim.Native.Nat.{ℕ, _+_, _-_, _≤_}
+use Prim.Native.Nat.{ℕ, _+_, _-_, _*_, _≤_}
 use native.Mathlib.Nat.{add-zero}
 use native.Mathlib.Omega.{arith}
-use borrow.Author.Tests.{eq-eqb, ne-eqb}
+use borrow.Author.Tests.{eqb-true, eq-eqb, ne-eqb}
 use lib.Dec.{eqb}
 use lib.ListN.{length, take, drop, getD, replicate, length-append, length-drop, length-replicate}
 use lib.Seq.{take-all}
@@ -14,6 +14,9 @@ use Rattle.rules.specs.Bytes.{be, le, beDigits, leDigits, part, patch, unpack, 
 use Rattle.rules.specs.Head.{headBytes, uuidBytes, headWidths, headFields, decodeHead}
 use Rattle.rules.specs.Card.{cardBytes, cardWidths, cardFields, decodeCard, cardSpareZero}
 use Rattle.rules.specs.Extent.{extentBytes, extentKey, decodeExtent, encodeExtent, extentFixed}
+use Rattle.rules.specs.Lists.{all}
+use Rattle.rules.proofs.ListLaws.{and-left, and-right, and-intro}
+use Rattle.rules.proofs.ScanLaws.{same-test}
 use Rattle.rules.proofs.ByteLaws.{length-beDigits, length-leDigits, length-part, getD-part, part-part, patch-patch}
 use Rattle.rules.proofs.FieldLaws.{Fit, fit-at, fit-unpack}
 use Rattle.words.specs.Fields.{headValues, cardValues}
@@ -40,6 +43,22 @@ key-put s x y z at a tag b l p q r =
     ∙ patch-patch s at (at + 9) (beDigits 8 a ++ (tag ∷ [])) (beDigits 8 b) (omega arith) (omega arith)
     ∙ ap (patch s at) (append-assoc (beDigits 8 a) (tag ∷ []) (beDigits 8 b))
 
+-- ---- zeros
+
+-- a number is zero where all its bytes are
+le-zero : (bs : List ℕ) → eqb (le bs) 0 ≡ allZero bs
+unfolding le allZero all
+le-zero [] = refl
+le-zero (b ∷ bs) =
+    same-test (eqb (b + 256 * le bs) 0) (eqb b 0 && allZero bs)
+    (λ h.
+    let z : b + 256 * le bs ≡ 0 = eqb-true (b + 256 * le bs) 0 h in
+    and-intro (eqb b 0) (allZero bs) (eq-eqb b 0 (omega arith)) (sym (le-zero bs) ∙ eq-eqb (le bs) 0 (omega arith)))
+    (λ h.
+    let y : b ≡ 0 = eqb-true b 0 (and-left (eqb b 0) (allZero bs) h) in
+    let z : le bs ≡ 0 = eqb-true (le bs) 0 (le-zero bs ∙ and-right (eqb b 0) (allZero bs) h) in
+    eq-eqb (b + 256 * le bs) 0 (omega arith))
+
 -- ---- extents
 
 module _ (s : List ℕ) (at : ℕ) where
@@ -65,11 +84,10 @@ module _ (s : List ℕ) (at : ℕ) where
   fixed-tag n = rw (getD-part s at 33 8 (omega arith), ne-eqb (getD s (at + 8) 0) 3 n) refl
 
   -- the right one leaves it to the zeros
-  pub fixed-zeros : (m : Bool) → getD s (at + 8) 0 ≡ 3 → m ≡ allZero (part (at + 29) (at + 33 - (at + 29)) s) → m ≡ extentFixed (part at extentBytes s)
+  pub fixed-zeros : (x : ℕ) → getD s (at + 8) 0 ≡ 3 → x ≡ le (part (at + 29) 4 s) → eqb x 0 ≡ extentFixed (part at extentBytes s)
   unfolding extentFixed
-  fixed-zeros m e p =
-      let k : at + 33 - (at + 29) ≡ 4 = omega arith in
-      p ∙ rw (k, getD-part s at 33 8 (omega arith), eq-eqb (getD s (at + 8) 0) 3 e, part-at 33 29 4 (omega arith)) refl
+  fixed-zeros x e p =
+      rw (p, le-zero (part (at + 29) 4 s), getD-part s at 33 8 (omega arith), eq-eqb (getD s (at + 8) 0) 3 e, part-at 33 29 4 (omega arith)) refl
 
   -- the four runs of an extent, written side by side
   pub extent-put : (x y z t : List ℕ) (e : Extent) → at + extentBytes ≤ length s → x ≡ patch s at (extentKey (e .object) (e .logical)) → y ≡ patch x (at + 17) (leDigits 8 (e .physical)) → z ≡ patch y (at + 25) (leDigits 4 (e .count))
@@ -98,8 +116,8 @@ module _ (s : List ℕ) (at : ℕ) where
       → cardOf c ≡ decodeCard (part at cardBytes s)
   unfolding cardOf decodeCard cardFields
   card-read f c v o z a t n =
-      (λ i. record { object = o i; size = z i; allocated = a i; seconds = t i; nanoseconds = n i })
-      ∙ (λ i. record { object = getD (v i) 0 0; size = getD (v i) 1 0; allocated = getD (v i) 2 0; seconds = getD (v i) 3 0; nanoseconds = getD (v i) 4 0 })
+      (λ i. record { object = o i; size = z i; allocated = a i; changed = record { seconds = t i; nanoseconds = n i } })
+      ∙ (λ i. record { object = getD (v i) 0 0; size = getD (v i) 1 0; allocated = getD (v i) 2 0; changed = record { seconds = getD (v i) 3 0; nanoseconds = getD (v i) 4 0 } })
 
   -- they are within their widths
   pub card-fits : (f : CardValues) (c : Card) → cardValues f ≡ unpack cardWidths (be (part at 32 s))

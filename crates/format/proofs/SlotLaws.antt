@@ -1,16 +1,15 @@
 -- Laws of a checksum group: its slots one by one, after one is set or cleared, up to the last present one, and in a record's bytes.
 -- Assumes nothing.
 use mathlib.Core.Path.{_≡_, refl, sym, ap, _∙_}
-use mathlib.Core.Bool.{Bool, true, false, not, _||_}
+use mathlib.Core.Bool.{Bool, true, false, not, _&&_, _||_}
 use mathlib.Core.List.{List, [], _∷_, _++_, map, zipWith, flatMap, append-nil, append-assoc}
 use mathlib.Core.Option.{Option, none, some}
 use Prim.Native.Nat.{ℕ, zero, suc, _+_, _-_, _*_, _/_, _%_, _^_, _≤_, _<_, min, max}
-use native.Mathlib.Nat.{zero-add, add-zero, one-mul, div-eq-of-lt, zero-div, mod-lt, pow-suc, lt-of-lt-of-le}
+use native.Mathlib.Nat.{zero-add, add-zero, one-mul, mul-one, mul-zero, div-eq-of-lt, zero-div, mod-lt, pow-suc, lt-of-lt-of-le}
 use native.Mathlib.Decide.{ℕ-discrete}
 use native.Mathlib.Numerals.{add-one}
 use native.Mathlib.Omega.{arith}
-use borrow.Author.Count.{below-more}
-use borrow.Author.Tests.{eqb-true, eq-eqb, ne-eqb, not-true, not-false}
+use borrow.Author.Tests.{eqb-true, eq-eqb, ne-eqb}
 use lib.Bits.{bitOr, bitAnd, or-shr, or-step, and-shr, and-step}
 use lib.Count.{leadingZeros, leading-top}
 use lib.Dec.{eqb, eqb·suc-zero}
@@ -20,11 +19,13 @@ use lib.Seq.{ext-getD, getD-set-same, getD-set-other, take-suc, take-all, take-t
 use Rattle.rules.specs.Lists.{if_then_else_, maybe, given, range, all}
 use Rattle.rules.specs.Bytes.{Bytes, be, le, leDigits, part, patch, pieces, bitSet}
 use Rattle.rules.specs.Group.{Group, groupBytes, groupKey, presence, slotBytes, slotValues, presenceBits, decodeGroup, encodeGroup, absentZero, groupFixed, upToPresent, compactGroup}
-use Rattle.rules.proofs.ListLaws.{Each, each-any, if-cases, if-true, if-false, test-cases, clash, all-at, all-of, all-range-at, length-range, length-zipWith, getD-map, getD-map-range, getD-zipWith}
+use Rattle.rules.proofs.ListLaws.{Each, each-any, if-cases, if-true, if-false, or-left, all-at, all-of, all-range-at, all-range-of, length-range, length-zipWith, getD-map, getD-map-range, getD-zipWith}
+use Rattle.rules.proofs.ScanLaws.{same-test, scan-none, scan-add, scan-suc}
 use Rattle.rules.proofs.ByteLaws.{length-beDigits, drop-take, getD-part, length-leDigits, length-part, part-drop, part-part, patch-none, patch-patch}
 use Rattle.rules.proofs.BitLaws.{length-bitBytes, bitBytes-same, bitBytes-bitSet}
 use Rattle.rules.proofs.BookLaws.{getD-pieces, length-flatMap, length-pieces, pieces-same}
 use Rattle.words.proofs.NumberLaws.{patch-whole}
+use Rattle.words.proofs.RangeLaws.{or-zero}
 use Rattle.format.specs.Records.{slotsFrom, valueOf, valuesAt, slotRight, UpTo}
 use Rattle.rules.proofs.CountLaws.{flatMap-append}
 
@@ -391,6 +392,18 @@ pub group-read : (s p v : List ℕ) (at : ℕ) → p ≡ part (at + 17) 32 s →
 unfolding slotsFrom decodeGroup presenceBits
 group-read s p v at e f = rw (e, f, present-at s at, values-at s at) refl
 
+-- a value and a bit: the product with the inverted bit is zero where the bit is set, or the value zero
+product : (v bit : ℕ) → bit < 2 → eqb (v * (1 - bit)) 0 ≡ (eqb bit 1 || eqb v 0)
+product v zero l = ap (λ (n : ℕ). eqb n 0) (mul-one v)
+product v (suc zero) l = ap (λ (n : ℕ). eqb n 0) (mul-zero v)
+product v (suc (suc bit)) l = absurd (omega arith)
+
+-- it is no more than the value
+pub product-fits : (v y c : ℕ) → v < 2 ^ 32 → c ≡ 1 - y → v * c < 2 ^ 32
+product-fits v y zero l e = rw (mul-zero v) (omega arith)
+product-fits v y (suc zero) l e = rw (mul-one v) l
+product-fits v y (suc (suc c)) l e = absurd (omega arith)
+
 module _ (s : List ℕ) (at n : ℕ) (l : n < 256) where
   -- a presence bit in the record's bytes
   pub bit-at-place : bitSet (part 17 32 (part at groupBytes s)) n ≡ eqb (getD s (at + 17 + n / 8) 0 / 2 ^ (n % 8) % 2) 1
@@ -417,15 +430,10 @@ module _ (s : List ℕ) (at n : ℕ) (l : n < 256) where
     unfolding if_then_else_
     read-absent t = sym (slot-at-place ∙ rw (← e, t) refl)
 
-    -- a present slot is right
-    pub right-present : m ≡ true → true ≡ slotRight (part at groupBytes s) n
-    unfolding slotRight
-    right-present t = rw (bit-at-place, ← e, t) refl
-
-    -- one that is not has to be zero
-    pub right-absent : (x : ℕ) → m ≡ false → x ≡ le (part (at + 49 + 4 * n) 4 s) → eqb x 0 ≡ slotRight (part at groupBytes s) n
-    unfolding slotRight
-    right-absent x t v = rw (bit-at-place, ← e, t, value-at-place, v) refl
+  -- the value where the bit is clear, and zero where it is set
+  pub absent-value : (x c : ℕ) → x ≡ le (part (at + 49 + 4 * n) 4 s) → c ≡ 1 - getD s (at + 17 + n / 8) 0 / 2 ^ (n % 8) % 2 → eqb (x * c) 0 ≡ slotRight (part at groupBytes s) n
+  unfolding slotRight
+  absent-value x c p q = rw (p, q, bit-at-place, value-at-place) (product (le (part (at + 49 + 4 * n) 4 s)) (getD s (at + 17 + n / 8) 0 / 2 ^ (n % 8) % 2) (mod-lt _ (omega arith)))
 
 -- the test of a record's slots, at a place
 test-slots : (b : List ℕ) (n : ℕ) → n < 256 → getD (zipWith (λ present crc. present || eqb crc 0) (presenceBits b) (slotValues b)) n true ≡ slotRight b n
@@ -443,30 +451,59 @@ length-tests b =
     length-zipWith (λ present crc. present || eqb crc 0) 256 (map (bitSet (part 17 32 b)) (range 0 256)) (map le (pieces 4 256 (drop 49 b)))
     (length-map (range 0 256) (bitSet (part 17 32 b)) ∙ length-range 0 256) (length-map (pieces 4 256 (drop 49 b)) le ∙ length-pieces 4 256 (drop 49 b))
 
--- none is looked at yet
-pub right-none : (b : List ℕ) (k : ℕ) → k < 0 → slotRight b k ≡ true
-right-none b k l = absurd (omega arith)
-
--- one slot more is right
-pub right-more : (b : List ℕ) (n : ℕ) (m : Bool) → ((k : ℕ) → k < n → slotRight b k ≡ true) → m ≡ slotRight b n → not m ≡ false → (k : ℕ) → k < n + 1 → slotRight b k ≡ true
-right-more b n m f e t = below-more (λ k. slotRight b k ≡ true) n f (sym e ∙ not-false m t)
-
--- every slot is right
-pub absent-all : (b : List ℕ) (n : ℕ) → 256 ≤ n → ((k : ℕ) → k < n → slotRight b k ≡ true) → true ≡ absentZero b
+-- the tests of all slots
+absent-scan : (p : List ℕ) → all (slotRight p) (range 0 256) ≡ absentZero p
 unfolding absentZero
-absent-all b n h f =
-    sym (all-of (λ ok. ok) (zipWith (λ present crc. present || eqb crc 0) (presenceBits b) (slotValues b)) true
-    (λ i l. test-slots b i (omega (arith, length-tests b)) ∙ f i (omega (arith, length-tests b))))
+absent-scan p =
+    let ts : List Bool = zipWith (λ present crc. present || eqb crc 0) (presenceBits p) (slotValues p) in
+    let len : length ts ≡ 256 = length-tests p in
+    same-test (all (slotRight p) (range 0 256)) (all (λ ok. ok) ts)
+    (λ h. all-of (λ ok. ok) ts true (λ i l. test-slots p i (omega arith) ∙ ap (slotRight p) (sym (zero-add i)) ∙ all-range-at (slotRight p) 0 256 h i (omega arith)))
+    (λ h. all-range-of (slotRight p) 0 256 (λ i l. ap (slotRight p) (zero-add i) ∙ sym (test-slots p i l) ∙ all-at (λ ok. ok) ts h i true (omega arith)))
 
--- one is not
-pub absent-not : (b : List ℕ) (n : ℕ) (m : Bool) → n < 256 → m ≡ slotRight b n → not m ≡ true → false ≡ absentZero b
-unfolding absentZero
-absent-not b n m l q u =
-    let h : slotRight b n ≡ false = sym q ∙ not-true m u in
-    test-cases (false ≡ all (λ ok. ok) (zipWith (λ present crc. present || eqb crc 0) (presenceBits b) (slotValues b)))
-    (all (λ ok. ok) (zipWith (λ present crc. present || eqb crc 0) (presenceBits b) (slotValues b)))
-    (λ t. absurd (clash h (sym (test-slots b n l) ∙ all-at (λ ok. ok) (zipWith (λ present crc. present || eqb crc 0) (presenceBits b) (slotValues b)) t n true (omega (arith, length-tests b)))))
-    (λ t. sym t)
+module _ (p : List ℕ) where
+  module _ (a : ℕ) where
+    -- no slot yet
+    pub slots-from : eqb 0 0 ≡ all (slotRight p) (range a 0)
+    slots-from = sym (scan-none (slotRight p) a)
+
+    -- one more
+    pub slots-next : (k x v : ℕ) → eqb x 0 ≡ all (slotRight p) (range a k) → eqb v 0 ≡ slotRight p (a + k) → eqb (bitOr x v) 0 ≡ all (slotRight p) (range a (k + 1))
+    slots-next k x v e f = or-zero x v ∙ rw (e, f) (sym (scan-suc (slotRight p) a k))
+
+    -- eight
+    pub slots-eight : (k x : ℕ) → k ≤ 8 → 8 ≤ k → eqb x 0 ≡ all (slotRight p) (range a k) → eqb x 0 ≡ all (slotRight p) (range a 8)
+    slots-eight k x l h e = let q : k ≡ 8 = omega arith in rw q at e
+
+  -- no byte of them yet
+  pub bytes-none : eqb 0 0 ≡ all (slotRight p) (range 0 (8 * 0))
+  bytes-none = sym (scan-none (slotRight p) 0)
+
+  -- one more
+  pub bytes-more : (b x v : ℕ) → eqb x 0 ≡ all (slotRight p) (range 0 (8 * b)) → eqb v 0 ≡ all (slotRight p) (range (8 * b) 8) → eqb (bitOr x v) 0 ≡ all (slotRight p) (range 0 (8 * (b + 1)))
+  bytes-more b x v e f =
+      let q : 8 * (b + 1) ≡ 8 * b + 8 = omega arith in
+      or-zero x v ∙ rw (e, f, q) (sym (scan-add (slotRight p) 0 (8 * b) 8 ∙ ap (λ (n : ℕ). all (slotRight p) (range 0 (8 * b)) && all (slotRight p) (range n 8)) (zero-add (8 * b))))
+
+  -- all
+  pub bytes-all : (b x : ℕ) → b ≤ 32 → 32 ≤ b → eqb x 0 ≡ all (slotRight p) (range 0 (8 * b)) → eqb x 0 ≡ absentZero p
+  bytes-all b x l h e = let q : b ≡ 32 = omega arith in (rw q at e) ∙ absent-scan p
+
+-- every bit of a full byte is set
+full-bits : (k : ℕ) → k < 8 → eqb (255 / 2 ^ k % 2) 1 ≡ true
+unfolding all range
+full-bits k l = ap (λ (n : ℕ). eqb (255 / 2 ^ n % 2) 1) (sym (zero-add k)) ∙ all-range-at (λ n. eqb (255 / 2 ^ n % 2) 1) 0 8 refl k l
+
+-- so that all its slots are right
+pub full-byte : (s : List ℕ) (at b : ℕ) → b < 32 → getD s (at + 17 + b) 0 ≡ 255 → eqb 0 0 ≡ all (slotRight (part at groupBytes s)) (range (8 * b) 8)
+unfolding slotRight
+full-byte s at b l e =
+    sym (all-range-of (slotRight (part at groupBytes s)) (8 * b) 8
+    (λ k g.
+    let q : (8 * b + k) / 8 ≡ b = omega arith in
+    let r : (8 * b + k) % 8 ≡ k = omega arith in
+    or-left (bitSet (part 17 32 (part at groupBytes s)) (8 * b + k)) (eqb (getD (slotValues (part at groupBytes s)) (8 * b + k) 0) 0)
+    (bit-at-place s at (8 * b + k) (omega arith) ∙ rw (q, r, e) (full-bits k g))))
 
 -- ---- slots written
 

@@ -121,14 +121,14 @@ module _ (e f : Extent) where
           (λ x. let y : e .count + f .count ≤ 4294967295 = leb-true (e .count + f .count) 4294967295 x in le-leb (e .count) (4294967295 - f .count) (omega arith)))
 
   -- extents of different files are apart from each other
-  pub clear-file : (e .object ≡ f .object → ⊥) → true ≡ apart (extentOf e) (extentOf f)
+  pub apart-file : (e .object ≡ f .object → ⊥) → true ≡ apart (extentOf e) (extentOf f)
   unfolding apart extentOf
-  clear-file n = rw (ne-eqb (e .object) (f .object) n) refl
+  apart-file n = rw (ne-eqb (e .object) (f .object) n) refl
 
   -- those of one file by where the first ends
-  pub clear-end : (m : Bool) → e .object ≡ f .object → m ≡ leb (e .logical + e .count) (f .logical) → m ≡ apart (extentOf e) (extentOf f)
+  pub apart-end : (m : Bool) → e .object ≡ f .object → m ≡ leb (e .logical + e .count) (f .logical) → m ≡ apart (extentOf e) (extentOf f)
   unfolding apart extentOf extentEnd
-  clear-end m o p = rw (eq-eqb (e .object) (f .object) o) p
+  apart-end m o p = rw (eq-eqb (e .object) (f .object) o) p
 
   -- the counts of two that join have a sum
   pub joins-sum : joins (extentOf e) (extentOf f) ≡ true → e .count + f .count ≤ 4294967295

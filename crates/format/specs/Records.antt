@@ -21,6 +21,18 @@ use Rattle.format.specs.declared.group.ChecksumGroup as group
 use Rattle.format.specs.declared.group.Slot as slot
 use Rattle.format.specs.declared.group.Slot.the-variants.{Present, Absent}
 
+-- the bytes of a key
+abbrev pub keyBytes : ℕ
+keyBytes = 17
+
+-- the bytes of a group's presence bits
+abbrev pub presenceBytes : ℕ
+presenceBytes = 32
+
+-- the bytes of a slot
+abbrev pub slotWidth : ℕ
+slotWidth = 4
+
 -- the head that the struct says
 unfoldable pub headOf : head.Head → Head
 headOf h = record {
@@ -48,8 +60,7 @@ cardOf c = record {
   object = c .object;
   size = c .size;
   allocated = c .allocated;
-  seconds = c .seconds;
-  nanoseconds = c .nanoseconds;
+  changed = record { seconds = c .seconds; nanoseconds = c .nanoseconds };
 }
 
 -- each of a card's fields is within its width; object has the whole of a word

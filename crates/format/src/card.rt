@@ -6,6 +6,9 @@ ghost use Rattle.rules.specs.Bytes.{part, patch};
 ghost use Rattle.rules.specs.Card.{cardBytes, decodeCard, encodeCard, cardSpareZero, cardBefore};
 ghost use Rattle.format.specs.Records.{cardOf, CardFits};
 
+// Bytes of a card.
+pub const CARD_BYTES: usize = 32;
+
 // A file's object, its size, the blocks that it has, and the time of its last change.
 pub struct Card {
     pub object: u64,

@@ -8,7 +8,22 @@ ghost use lib.ListN.{length};
 ghost use Rattle.rules.specs.Bytes.{part, patch};
 ghost use Rattle.rules.specs.Extent.{extentBytes, extentKey, encodeExtent, decodeExtent, extentFixed, extentBefore, extentEnd, deviceEnd, joins, joined, covers, blockOf};
 ghost use Rattle.rules.specs.Integrity.{apart};
-ghost use Rattle.format.specs.Records.{extentOf};
+ghost use Rattle.format.specs.Records.{keyBytes, extentOf};
+use super::key::KEY_BYTES;
+use super::sizes::BLOCK_BYTES;
+
+// Bytes of an extent.
+pub const EXTENT_BYTES: usize = 33;
+
+// Where in it the physical block stands, the count, and the zeros up to its end.
+const PHYSICAL_AT: usize = KEY_BYTES;
+
+const COUNT_AT: usize = 25;
+
+const ZEROS_AT: usize = 29;
+
+// The byte of its key that stands between object and block.
+const EXTENT_TAG: u8 = 3;
 
 // `count` blocks of the file of `object`, from its block `logical` on, stand at the device's blocks from `physical` on.
 pub struct Extent {
@@ -55,7 +70,7 @@ impl Extent {
         ensures { λ r. ⌜ r ≡ deviceEnd (extentOf self) ⌝ }
     {
         if ends_at_most(self.physical, self.count, 0xf_ffff_ffff_ffff) {
-            (self.physical + self.count as u64) * 4096
+            (self.physical + self.count as u64) * BLOCK_BYTES as u64
         } else {
             0xffff_ffff_ffff_ffff
         }
@@ -151,9 +166,9 @@ pub fn decode_extent(s: &[u8], at: usize) -> Extent
 {
     Extent {
         object: words::be64(s, at),
-        logical: words::be64(s, at + 9),
-        physical: words::le64(s, at + 17),
-        count: words::le32(s, at + 25),
+        logical: words::be64(s, at + super::key::NUMBER_AT),
+        physical: words::le64(s, at + PHYSICAL_AT),
+        count: words::le32(s, at + COUNT_AT),
     }
 }
 
@@ -162,18 +177,18 @@ pub fn extent_fixed(s: &[u8], at: usize) -> bool
     requires { ⌜ at + extentBytes ≤ length (now s) ⌝ }
     ensures { λ r. ⌜ r ≡ extentFixed (part at extentBytes (now (s .entry))) ⌝ }
 {
-    if s[at + 8] != 3 {
+    if s[at + super::key::TAG_AT] != EXTENT_TAG {
         return false;
     }
-    words::range::is_zero(s, at + 29, at + 33)
+    words::le32(s, at + ZEROS_AT) == 0
 }
 
 // The key of an extent, at `at`.
 pub fn extent_key(s: &mut [u8], at: usize, object: u64, logical: u64)
-    requires { ⌜ at + 17 ≤ length (now s) ⌝ }
+    requires { ⌜ at + keyBytes ≤ length (now s) ⌝ }
     ensures { λ _. ⌜ now (s .exit) ≡ patch (now (s .entry)) at (extentKey object logical) ⌝ }
 {
-    super::key::put_key(s, at, object, 3, logical);
+    super::key::put_key(s, at, object, EXTENT_TAG, logical);
 }
 
 // An extent, at `at`.
@@ -182,7 +197,7 @@ pub fn encode_extent(s: &mut [u8], at: usize, e: Extent)
     ensures { λ _. ⌜ now (s .exit) ≡ patch (now (s .entry)) at (encodeExtent (extentOf e)) ⌝ }
 {
     extent_key(s, at, e.object, e.logical);
-    words::put_le64(s, at + 17, e.physical);
-    words::put_le32(s, at + 25, e.count);
-    words::range::zero(s, at + 29, at + 33);
+    words::put_le64(s, at + PHYSICAL_AT, e.physical);
+    words::put_le32(s, at + COUNT_AT, e.count);
+    words::range::zero(s, at + ZEROS_AT, at + EXTENT_BYTES);
 }

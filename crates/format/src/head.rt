@@ -5,10 +5,16 @@ ghost use lib.ListN.{length, take};
 ghost use Rattle.rules.specs.Head.{headBytes, uuidBytes, decodeHead, encodeHead};
 ghost use Rattle.format.specs.Records.{headOf, HeadFits};
 
+// Bytes of a head.
+pub const HEAD_BYTES: usize = 28;
+
+// Bytes of a uuid, in front of the packed fields.
+pub const UUID_BYTES: usize = 16;
+
 // The store's uuid, its blocks, how many of them are reserved, the allocation group to begin in, and the numbers of records in the three
 // books.
 pub struct Head {
-    pub uuid: [u8; 16],
+    pub uuid: [u8; UUID_BYTES],
     pub blocks: u64,
     pub reserved: u64,
     pub hint: u64,
@@ -17,13 +23,13 @@ pub struct Head {
     pub groups: u64,
 }
 
-// The first 16 bytes.
-fn read_uuid(s: &[u8]) -> [u8; 16]
+// The uuid of a head's bytes.
+pub fn read_uuid(s: &[u8]) -> [u8; UUID_BYTES]
     requires { ⌜ uuidBytes ≤ length (now s) ⌝ }
     ensures { λ r. ⌜ r ≡ take uuidBytes (now (s .entry)) ⌝ }
 {
-    let mut uuid = [0u8; 16];
-    words::range::copy_part(&mut uuid, 0, s, 0, 16);
+    let mut uuid = [0u8; UUID_BYTES];
+    words::range::copy_part(&mut uuid, 0, s, 0, UUID_BYTES);
     uuid
 }
 
@@ -33,7 +39,7 @@ pub fn decode_head(s: &[u8]) -> Head
     ensures { λ r. ⌜ (headOf r ≡ decodeHead (now (s .entry))) × HeadFits r ⌝ }
 {
     let uuid = read_uuid(s);
-    let f = words::field::read_head(s, 16);
+    let f = words::field::read_head(s, UUID_BYTES);
     Head {
         uuid,
         blocks: f.blocks,
@@ -61,5 +67,5 @@ pub fn encode_head(s: &mut [u8], h: Head)
         groups: h.groups,
     };
     words::range::copy(s, 0, &uuid);
-    words::field::put_head(s, 16, f);
+    words::field::put_head(s, UUID_BYTES, f);
 }

@@ -5,6 +5,14 @@ ghost use Prim.Native.Nat.{_+_, _≤_, _<_};
 ghost use lib.ListN.{length};
 ghost use Rattle.rules.specs.Bytes.{beDigits, patch};
 ghost use Rattle.rules.specs.Lists.{pairBefore};
+ghost use Rattle.format.specs.Records.{keyBytes};
+
+// Bytes of a key, and where in it the fixed byte and the number stand.
+pub const KEY_BYTES: usize = 17;
+
+pub const TAG_AT: usize = 8;
+
+pub const NUMBER_AT: usize = 9;
 
 // Whether the key of a and b stands before that of c and d: by the first number, and where those are equal by the second.
 pub fn before(a: u64, b: u64, c: u64, d: u64) -> bool
@@ -21,12 +29,12 @@ fn put_byte(s: &mut [u8], at: usize, b: u8)
     s[at] = b;
 }
 
-// The 17 bytes of a key, at `at`.
+// The bytes of a key, at `at`.
 pub fn put_key(s: &mut [u8], at: usize, a: u64, tag: u8, b: u64)
-    requires { ⌜ at + 17 ≤ length (now s) ⌝ }
+    requires { ⌜ at + keyBytes ≤ length (now s) ⌝ }
     ensures { λ _. ⌜ now (s .exit) ≡ patch (now (s .entry)) at (beDigits 8 a ++ (tag ∷ beDigits 8 b)) ⌝ }
 {
     words::put_be64(s, at, a);
-    put_byte(s, at + 8, tag);
-    words::put_be64(s, at + 9, b);
+    put_byte(s, at + TAG_AT, tag);
+    words::put_be64(s, at + NUMBER_AT, b);
 }

@@ -1,33 +1,62 @@
+-- Demand 3, proved over `rules` alone. To be read from the top down:
+--
+--   Demand3            the theorem
+--   Induction          what every act on a store keeps holds after a list of them, whatever the acts are
+--   HistoryLaws        that induction for the calls: a refused one leaves the store and tells the plain arrays nothing
+--   Invariant          what every accepted call keeps, in two records (of the files; of the blocks), and demand 3's claim from it. Fresh, enter,
+--                      settle and the calls that leave the store are shown here, with
+--   HolderLaws         what enter and settle do to the holders of blocks and to the places of files
+--   ReadLaws           a read from its units: each unit, read, is what the plain array has there
+--   Changes            write and grow, which `Invariant` leaves as a premise. An accepted one has a plan (FileCallLaws); then come
+--
+-- What the plan says:
+--   ChangeLaws         what a change does to a plain array, and which units it leaves out
+--   UnitLaws           what a hole and a checked unit say of books and image
+--   PlanLaws           no unit is refused but for want of blocks, and what a rewritten unit becomes
+--   PlannedLaws        the rewritten units together: their order, new blocks, the card's count and the hint
+--
+-- What the finished volume says, from the plan:
+--   ExtentsAfter       the extents. Below it: Rewritten (the words), ApartLaws (extents one behind the other), MeetLaws (joining), CutLaws (units cut out),
+--                      RunLaws (the runs of the call), MappingLaws (where a block is), PlaceLaws and ExtentsFromPlaces (places)
+--   GroupsAfter, CardsAfter, ImageAfter      the groups, the cards, the image
+--   AfterUnits         each unit, read: a rewritten one has the new bytes, any other its old ones (BackedLaws: refusal 9's test of a unit)
+--   BlocksAfter        each block is in one place, and the maps keep their rules (PlaceCounts, BalanceLaws: places counted)
+--   VolumeAfter        it passes refusals 1 and 2
+--   AgreesAfter        it says what the plain arrays do
+--
+-- MoreLists and MoreBytes are laws of lists and of buffers that these rest on. Laws of the rules that code cites too stand in `rules`: what is kept of a unit
+-- (KeptLaws), that every call leaves bytes (BytesKept), allocation, and what an accepted fresh, enter or settle leaves.
+-- Assumes nothing.
+pub mod Demand3
 pub mod Induction
 pub mod HistoryLaws
-pub mod HolderLaws
-pub mod FileCallLaws
-pub mod ReadLaws
 pub mod Invariant
+pub mod HolderLaws
+pub mod ReadLaws
+pub mod Changes
+pub mod FileCallLaws
+pub mod ChangeLaws
+pub mod UnitLaws
+pub mod PlanLaws
+pub mod PlannedLaws
+pub mod ExtentsAfter
 pub mod Rewritten
 pub mod ApartLaws
 pub mod MeetLaws
-pub mod MappingLaws
 pub mod CutLaws
 pub mod RunLaws
+pub mod MappingLaws
 pub mod PlaceLaws
-pub mod ExtentsAfter
-pub mod BackedLaws
 pub mod ExtentsFromPlaces
-pub mod MoreLists
-pub mod MoreBytes
-pub mod ImageAfter
 pub mod GroupsAfter
 pub mod CardsAfter
-pub mod PlaceCounts
-pub mod UnitLaws
-pub mod ChangeLaws
-pub mod PlanLaws
-pub mod PlannedLaws
-pub mod BalanceLaws
+pub mod ImageAfter
 pub mod AfterUnits
+pub mod BackedLaws
 pub mod BlocksAfter
+pub mod PlaceCounts
+pub mod BalanceLaws
 pub mod VolumeAfter
 pub mod AgreesAfter
-pub mod Changes
-pub mod Demand3
+pub mod MoreLists
+pub mod MoreBytes

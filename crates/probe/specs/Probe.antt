@@ -1,12 +1,17 @@
--- What a probe gives where its arguments are not ones that the function behind it takes.
+-- What a probe gives, also where its arguments are not ones that the function behind it takes.
 -- Assumes nothing.
-use mathlib.Core.List.{List}
+use mathlib.Core.List.{List, [], _++_}
 use mathlib.Core.Bool.{Bool, not}
-use Prim.Native.Nat.{ℕ, _*_}
+use Prim.Native.Nat.{ℕ, zero, suc, _*_}
 use lib.Dec.{eqb, leb}
 use lib.ListN.{length}
 use Rattle.rules.specs.Lists.{if_then_else_, all, count, range}
 use Rattle.rules.specs.Bytes.{bitSet}
+
+-- bytes so many times one behind the other
+unfoldable pub repeated : ℕ → List ℕ → List ℕ
+repeated zero bytes = []
+repeated (suc n) bytes = repeated n bytes ++ bytes
 
 -- one buffer over another of the same length, else the other as it is
 unfoldable pub copied : List ℕ → List ℕ → List ℕ

@@ -2,9 +2,11 @@
 ghost use mathlib.Core.Path.{_≡_};
 ghost use Prim.Native.Nat.{_+_, _≤_};
 ghost use lib.ListN.{length};
+use super::MAP_BYTES;
 use allocation::Allocated;
 use allocation::Cursors;
 use allocation::Taken;
+use format::sizes::UNIT_BLOCKS;
 
 // What is past the highest block taken in each of four groups.
 fn cursors_of(past: &[u8]) -> Cursors
@@ -62,13 +64,13 @@ pub extern "C" fn sangueko_probe_allocate(
     want: usize,
     out: &mut [u8],
 ) -> usize {
-    if 8192 < map.len() {
+    if MAP_BYTES < map.len() {
         return 18;
     }
     if ((8 * map.len()) as u64) < blocks {
         return 18;
     }
-    if 16 < want {
+    if UNIT_BLOCKS < want {
         return 18;
     }
     if past.len() != 32 {

@@ -1,9 +1,10 @@
 // The extent book, for tests and the benchmark.
+use format::extent::EXTENT_BYTES;
 
-// Whether all places of a book hold extents in order, those of one file clear of each other.
+// Whether all places of a book hold extents in order, those of one file apart from each other.
 #[no_mangle]
 pub extern "C" fn sangueko_probe_extents_ordered(book: &[u8]) -> bool {
-    book::order::extents_ordered(book, book.len() / 33)
+    book::order::extents_ordered(book, book.len() / EXTENT_BYTES)
 }
 
 // In a book of `n` extents, the `k` from place `i` on exchanged for those in `new`, where they fit.
@@ -15,9 +16,9 @@ pub extern "C" fn sangueko_probe_splice_extents(
     k: usize,
     new: &[u8],
 ) -> bool {
-    let places = book.len() / 33;
-    let m = new.len() / 33;
-    if new.len() != 33 * m {
+    let places = book.len() / EXTENT_BYTES;
+    let m = new.len() / EXTENT_BYTES;
+    if new.len() != EXTENT_BYTES * m {
         return false;
     }
     if places < n {

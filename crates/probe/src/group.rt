@@ -1,11 +1,13 @@
 // Checksum groups, for tests: a record of 1,073 bytes through the struct in hand. A record of another length, or a slot past the last, changes nothing
 // and answers as an absent slot does.
+use format::group::GROUP_BYTES;
 use format::group::Slot;
+use format::sizes::GROUP_UNITS;
 
 // The length that `compact_group` keeps of a group's value.
 #[no_mangle]
 pub extern "C" fn sangueko_probe_compact_group(group: &[u8]) -> usize {
-    if group.len() != 1073 {
+    if group.len() != GROUP_BYTES {
         return 0;
     }
     format::group::compact_group(format::group::decode_group(group, 0))
@@ -14,10 +16,10 @@ pub extern "C" fn sangueko_probe_compact_group(group: &[u8]) -> usize {
 // The checksum in slot `n`, or 2^32 where none is present.
 #[no_mangle]
 pub extern "C" fn sangueko_probe_checksum_slot(group: &[u8], n: usize) -> u64 {
-    if group.len() != 1073 {
+    if group.len() != GROUP_BYTES {
         return 0x1_0000_0000;
     }
-    if 256 <= n {
+    if GROUP_UNITS <= n {
         return 0x1_0000_0000;
     }
     let slot = format::group::checksum_slot_at(group, 0, n);
@@ -38,10 +40,10 @@ fn slot_of(crc: u64) -> Slot {
 // Slot `n` set, or cleared.
 #[no_mangle]
 pub extern "C" fn sangueko_probe_set_checksum_slot(group: &mut [u8], n: usize, crc: u64) {
-    if group.len() != 1073 {
+    if group.len() != GROUP_BYTES {
         return;
     }
-    if 256 <= n {
+    if GROUP_UNITS <= n {
         return;
     }
     let object = format::group::group_object(group, 0);

@@ -4,11 +4,16 @@ ghost use mathlib.Core.Path.{_≡_};
 ghost use lib.ListN.{length};
 ghost use Rattle.rules.specs.Bytes.{allZero};
 ghost use Rattle.rules.specs.Crc32c.{crc32c};
-ghost use Rattle.probe.specs.Probe.{copied, mapBits, countSet, allClear};
+ghost use Rattle.probe.specs.Probe.{repeated, copied, mapBits, countSet, allClear};
 
 pub mod allocate;
+pub mod books;
 pub mod extents;
 pub mod group;
+pub mod unit;
+
+// Bytes of the map of the largest store.
+pub const MAP_BYTES: usize = 8192;
 
 // The CRC-32C of `bytes`.
 #[no_mangle]
@@ -16,6 +21,21 @@ pub extern "C" fn sangueko_probe_crc32c(bytes: &[u8]) -> u32
     ensures { λ r. ⌜ r ≡ crc32c (now (bytes .entry)) ⌝ }
 {
     crc32c::checksum(bytes)
+}
+
+// The CRC-32C of `bytes` as many times one behind the other: fed anew each time, with the tables copied once.
+#[no_mangle]
+pub extern "C" fn sangueko_probe_crc32c_repeated(bytes: &[u8], times: usize) -> u32
+    ensures { λ r. ⌜ r ≡ crc32c (repeated times (now (bytes .entry))) ⌝ }
+{
+    let t = crc32c::tables();
+    let mut c = crc32c::begin();
+    let mut i: usize = 0;
+    while i < times {
+        c = crc32c::feed(&t, c, bytes);
+        i += 1;
+    }
+    crc32c::finish(c)
 }
 
 // Whether every byte is zero.
@@ -40,7 +60,7 @@ pub extern "C" fn sangueko_probe_copy(to: &mut [u8], from: &[u8])
 fn map_bits(map: &[u8]) -> usize
     ensures { λ r. ⌜ r ≡ mapBits (now (map .entry)) ⌝ }
 {
-    if map.len() <= 8192 {
+    if map.len() <= MAP_BYTES {
         return 8 * map.len();
     }
     0

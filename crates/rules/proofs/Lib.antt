@@ -1,5 +1,6 @@
 pub mod Opened
 pub mod ListLaws
+pub mod ScanLaws
 pub mod ByteLaws
 pub mod FieldLaws
 pub mod BitLaws
@@ -25,3 +26,4 @@ pub mod CountLaws
 pub mod AllocationLaws
 pub mod KeptLaws
 pub mod BytesKept
+pub mod StoreAfter

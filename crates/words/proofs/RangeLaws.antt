@@ -92,7 +92,7 @@ and-true true = refl
 and-true false = refl
 
 -- the bits of two numbers are all clear if those of both are
-or-zero : (a b : ℕ) → eqb (bitOr a b) 0 ≡ eqb a 0 && eqb b 0
+pub or-zero : (a b : ℕ) → eqb (bitOr a b) 0 ≡ eqb a 0 && eqb b 0
 or-zero zero b = rw (or-zero-l b) refl
 or-zero (suc a) b = rw (eqb·suc-zero a) (ne-eqb (bitOr (suc a) b) 0 (λ e. omega (arith, or-add-and (suc a) b, and-le-r (suc a) b)))
 

@@ -1,6 +1,7 @@
-//! One store for each word of refusals 1 and 2, made from one that passes
-//! them, and enter's refusals. The Rust has no such calls; they are recorded
-//! for a library.
+//! The broken stores at the head of the recorded answers: words of refusals 1
+//! and 2, some of which break other words besides, and enter's refusals. The
+//! Rust has no such calls. `alone` breaks each word alone, everywhere and for
+//! every call; these stay as they are recorded.
 
 use model::records::{CARD_BYTES, EXTENT_BYTES, GROUP_BYTES, put_bits};
 use model::{Call, Card, Extent, Group, Store, Time, Volume};
@@ -44,8 +45,8 @@ pub fn sound_store() -> Store {
     store
 }
 
-/// Every broken store. The calls on them go round, since refusals 1 and 2 are
-/// every call's; fresh tries only 1.
+/// Every recorded broken store. The calls on them go round; fresh tries only
+/// 1.
 pub fn broken_stores() -> Vec<Broken> {
     let sound = sound_store();
     let mut all = Vec::new();

@@ -6,7 +6,7 @@ use model::{
     Volume, passes_refusals_1_and_2,
 };
 
-use crate::rng::Rng;
+use random::Rng;
 
 /// What was done, and which image bytes now hold what.
 pub struct Damage {

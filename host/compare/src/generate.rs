@@ -6,7 +6,7 @@ use model::{
     BLOCK_BYTES, Call, GROUP_BLOCKS, MAX_SIZE, MAX_TRANSFER_BYTES, Store, Time, UNIT_BYTES, Volume,
 };
 
-use crate::rng::Rng;
+use random::Rng;
 
 /// What kind of store a history runs on.
 #[derive(Clone, Copy, Debug, PartialEq, Eq, PartialOrd, Ord)]
@@ -144,6 +144,24 @@ impl History {
 
     pub fn blocks(&self) -> u64 {
         self.places[0]
+    }
+
+    /// Whether the opening calls were made.
+    pub fn begun(&self) -> bool {
+        self.opening.is_empty()
+    }
+
+    /// Make the store afresh, with its files, before the next step.
+    pub fn renew(&mut self) {
+        let uuid = (0..16).map(|_| self.rng.next_u64() as u8).collect();
+        let reserved = self.rng.below(self.blocks().min(3) + 1);
+        self.opening
+            .push_back(Step::Call(Call::Fresh { uuid, reserved }));
+        for object in self.objects.clone() {
+            let time = good_time(&mut self.rng);
+            self.opening
+                .push_back(Step::Call(Call::Enter { object, time }));
+        }
     }
 
     /// The buffers that the history starts with, before its fresh.

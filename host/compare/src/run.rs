@@ -6,9 +6,9 @@ use std::fmt::Write;
 use model::{Answer, BLOCK_BYTES, Call, Store, Volume};
 use oracle::OracleAnswer;
 
-use crate::damage::{damage, split_all};
 use crate::differences::Difference;
-use crate::generate::{History, Profile, Step, crowd};
+use crate::generate::{History, Profile};
+use crate::walk::{Event, Walk};
 
 /// The side that is held against the model: the oracle, or a library that
 /// answers in its stead.
@@ -47,7 +47,8 @@ pub struct Failure {
 /// call only where a block became used.
 const WHOLE_IMAGE_BYTES: usize = 8 << 20;
 
-fn same_images(document: &Store, rust: &Store, used_before: &[u8]) -> bool {
+/// Whether the images are equal, as far as is looked at after each call.
+pub fn same_images(document: &Store, rust: &Store, used_before: &[u8]) -> bool {
     if document.image.len() <= WHOLE_IMAGE_BYTES {
         return document.image == rust.image;
     }
@@ -127,46 +128,32 @@ pub fn compare_history(
     other: Other<'_>,
     tally: &mut Tally,
 ) -> Result<(), Box<Failure>> {
-    let mut history = History::new(seed, number);
-    let (mut document, mut rust) = (history.blank(), history.blank());
-    *tally.profiles.entry(history.profile).or_default() += 1;
+    let mut walk = Walk::new(History::new(seed, number));
+    let mut rust = walk.store.clone();
+    *tally.profiles.entry(walk.history.profile).or_default() += 1;
     tally.histories += 1;
-    let mut step = 0;
-    while let Some(next) = history.next(&document) {
-        step += 1;
-        let call = match next {
-            Step::Call(call) => call,
-            Step::Crowd => {
-                crowd(&mut history.rng, &mut document);
-                rust.copy_records_from(&document);
-                continue;
-            }
-            Step::Split => {
-                split_all(&mut history.rng, &mut document);
-                rust.copy_records_from(&document);
-                continue;
-            }
-            Step::Damage => {
-                if let Some(damage) = damage(&mut history.rng, &mut document) {
-                    *tally.damages.entry(damage.name).or_default() += 1;
-                    rust.copy_records_from(&document);
-                    for (at, byte) in damage.image {
-                        rust.image[at] = byte;
-                    }
+    while let Some(event) = walk.event() {
+        let call = match event {
+            Event::Call(call) => call,
+            Event::Changed(change) => {
+                if let Some(name) = change.name {
+                    *tally.damages.entry(name).or_default() += 1;
                 }
+                change.copy(&walk.store, &mut rust);
                 continue;
             }
         };
         tally.calls += 1;
-        let used_before = document.used.clone();
-        let answer = model::run(&mut document, &call);
+        let used_before = walk.store.used.clone();
+        let answer = model::run(&mut walk.store, &call);
         // A place that a damaged store shares may be kept and retired at
-        // once; every later call is then refused by 2 and says no more.
+        // once; every later call is then refused by 2, which the Rust does
+        // not have.
         if answer.number == 2 {
             break;
         }
         if !call.compared() {
-            rust.copy_records_from(&document);
+            rust.copy_records_from(&walk.store);
             continue;
         }
         let told = other(&mut rust, &call);
@@ -175,17 +162,19 @@ pub fn compare_history(
             .answers
             .entry((call.name(), answer.number))
             .or_default() += 1;
+        let document = &walk.store;
         let same_store =
-            document.records_equal(&rust) && same_images(&document, &rust, &used_before);
-        match verdict(&call, &document, &answer, &told, same_store) {
+            document.records_equal(&rust) && same_images(document, &rust, &used_before);
+        match verdict(&call, document, &answer, &told, same_store) {
             Verdict::Agree => {}
             Verdict::Listed(difference) => {
                 *tally.listed.entry(difference).or_default() += 1;
                 if !same_store {
-                    rust.clone_from(&document);
+                    rust.clone_from(document);
                 }
             }
             Verdict::Part(reason) => {
+                let step = walk.step;
                 let (store, call) = rebuild(seed, number, step);
                 return Err(Box::new(Failure {
                     origin: format!("seed {seed} history {number} step {step}"),
@@ -196,8 +185,8 @@ pub fn compare_history(
             }
         }
     }
-    if document.image != rust.image {
-        let (store, call) = rebuild(seed, number, step);
+    if walk.store.image != rust.image {
+        let (store, call) = rebuild(seed, number, walk.step);
         return Err(Box::new(Failure {
             origin: format!("seed {seed} history {number}, at its end"),
             reason: "a byte changed in a block that did not become used".into(),
@@ -210,20 +199,15 @@ pub fn compare_history(
 
 /// The store before a step of a history, and the step's call.
 pub fn rebuild(seed: u64, number: u64, step: usize) -> (Store, Call) {
-    let mut history = History::new(seed, number);
-    let mut store = history.blank();
-    let mut last = (store.clone(), Call::Fill);
-    for _ in 0..step {
-        match history.next(&store) {
+    let mut walk = Walk::new(History::new(seed, number));
+    let mut last = (walk.store.clone(), Call::Fill);
+    while walk.step < step {
+        match walk.event() {
             None => break,
-            Some(Step::Crowd) => crowd(&mut history.rng, &mut store),
-            Some(Step::Split) => split_all(&mut history.rng, &mut store),
-            Some(Step::Damage) => {
-                damage(&mut history.rng, &mut store);
-            }
-            Some(Step::Call(call)) => {
-                let before = store.clone();
-                model::run(&mut store, &call);
+            Some(Event::Changed(_)) => {}
+            Some(Event::Call(call)) => {
+                let before = walk.store.clone();
+                model::run(&mut walk.store, &call);
                 last = (before, call);
             }
         }

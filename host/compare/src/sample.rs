@@ -5,11 +5,11 @@ use std::collections::BTreeMap;
 use model::{Call, GROUP_BLOCKS, Store, passes_refusals_1_and_2};
 
 use crate::broken::broken_stores;
-use crate::damage::{damage, split_all};
-use crate::generate::{History, Profile, Step, crowd};
+use crate::generate::{History, Profile};
 use crate::recorded::{Case, Source, Writer};
 use crate::run::{Verdict, judge};
-use crate::smallest::smallest;
+use crate::smallest::{RECORDED_FIRST, smallest};
+use crate::walk::{Event, Walk};
 
 /// The seed of the recorded answers.
 pub const SEED: u64 = 2026;
@@ -28,11 +28,16 @@ pub fn answers(seed: u64) -> (Vec<u8>, usize) {
     for broken in broken_stores() {
         writer.case(&told(&broken.store, &broken.call));
     }
-    for smallest in smallest() {
+    let smallest = smallest();
+    let (first, later) = smallest.split_at(RECORDED_FIRST);
+    for smallest in first {
         writer.case(&told(&smallest.store, &smallest.call));
     }
     let wanted = |history: &History| history.profile != Profile::Groups;
     choose(seed, &mut writer, wanted, HISTORIES);
+    for smallest in later {
+        writer.case(&told(&smallest.store, &smallest.call));
+    }
     let calls = writer.calls;
     (writer.finish(), calls)
 }
@@ -116,23 +121,16 @@ fn told(store: &Store, call: &Call) -> Case {
     }
 }
 
-fn cases_of(mut history: History, mut each: impl FnMut(Case)) {
-    let mut store = history.blank();
-    while let Some(step) = history.next(&store) {
-        match step {
-            Step::Crowd => crowd(&mut history.rng, &mut store),
-            Step::Split => split_all(&mut history.rng, &mut store),
-            Step::Damage => {
-                damage(&mut history.rng, &mut store);
-            }
-            Step::Call(call) => {
-                let case = told(&store, &call);
-                store.clone_from(&case.after);
-                let number = case.answer.number;
-                each(case);
-                if number == 2 {
-                    break;
-                }
+fn cases_of(history: History, mut each: impl FnMut(Case)) {
+    let mut walk = Walk::new(history);
+    while let Some(event) = walk.event() {
+        if let Event::Call(call) = event {
+            let case = told(&walk.store, &call);
+            walk.store.clone_from(&case.after);
+            let number = case.answer.number;
+            each(case);
+            if number == 2 {
+                break;
             }
         }
     }

@@ -194,8 +194,17 @@ fn only_needed_blocks_used(volume: &mut Volume) {
 
 /// A store and a call in words.
 pub fn describe(store: &Store, call: &Call) -> String {
-    let volume = Volume::decode(store);
     let mut text = String::new();
+    if model::run(&mut store.clone(), &Call::Fill).number == 1 {
+        let lengths = store.buffers().map(Vec::len);
+        let _ = writeln!(
+            text,
+            "store: refused by 1; its buffers' lengths: {lengths:?}"
+        );
+        let _ = writeln!(text, "  head {:02x?}", store.head);
+        return text + &describe_call(call);
+    }
+    let volume = Volume::decode(store);
     let blocks_of =
         |bits: &[bool]| -> Vec<usize> { (0..bits.len()).filter(|&block| bits[block]).collect() };
     let _ = writeln!(
@@ -238,18 +247,20 @@ pub fn describe(store: &Store, call: &Call) -> String {
         let _ = writeln!(text, "  used {:?}", blocks_of(&volume.used));
         let _ = writeln!(text, "  retired {:?}", blocks_of(&volume.retired));
     }
-    let _ = match call {
+    text + &describe_call(call)
+}
+
+fn describe_call(call: &Call) -> String {
+    match call {
         Call::Write {
             object,
             offset,
             bytes,
             time,
-        } => writeln!(
-            text,
-            "call: write object {object} offset {offset}, {} bytes, {time:?}",
+        } => format!(
+            "call: write object {object} offset {offset}, {} bytes, {time:?}\n",
             bytes.len()
         ),
-        call => writeln!(text, "call: {call:?}"),
-    };
-    text
+        call => format!("call: {call:?}\n"),
+    }
 }

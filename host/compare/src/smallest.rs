@@ -24,7 +24,11 @@ const TIME: Time = Time {
 
 /// One block, none reserved, and at most one card.
 fn store(card: Option<Card>) -> Store {
-    let mut store = Store::blank(1, 1, 1, 1);
+    store_of(1, card)
+}
+
+fn store_of(blocks: u64, card: Option<Card>) -> Store {
+    let mut store = Store::blank(blocks, 1, 1, 1);
     let fresh = Call::Fresh {
         uuid: vec![0; 16],
         reserved: 0,
@@ -62,6 +66,10 @@ fn grow(size: u64) -> Call {
         time: TIME,
     }
 }
+
+/// How many of them stand at the head of the recorded answers; the others
+/// came later and stand at the end, so that the entries keep their numbers.
+pub const RECORDED_FIRST: usize = 7;
 
 pub fn smallest() -> Vec<Smallest> {
     let late = Time {
@@ -138,5 +146,14 @@ pub fn smallest() -> Vec<Smallest> {
             rust: Outcome::Refused(Error::Corrupt("checksummed data unit is not fully backed")),
             output: vec![0, model::READ_FILL],
         },
+        // Unit 0 takes the 16 blocks and is refused by 14; the Rust goes on
+        // to unit 1, for which no block is left.
+        show(
+            Difference::CountBound,
+            store_of(16, card(0, MAX_ALLOCATED)),
+            write(65_535, &[1, 1], TIME),
+            14,
+            Outcome::Refused(Error::NoSpace),
+        ),
     ]
 }

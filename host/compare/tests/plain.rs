@@ -3,7 +3,8 @@
 
 use std::collections::BTreeMap;
 
-use compare::generate::{History, Profile, Step};
+use compare::generate::{History, Profile};
+use compare::walk::Walk;
 use model::{Call, MAX_TRANSFER_BYTES, Store, Volume};
 
 /// An object's bytes: zeros up to its size, which may be 2^63 - 1, under the
@@ -89,17 +90,15 @@ fn blocks_add_up(store: &Store, reserved: u64) -> bool {
 #[test]
 fn reads_give_the_plain_arrays_bytes_and_blocks_add_up() {
     for number in 0..200 {
-        let mut history = History::new(11, number);
-        if history.profile == Profile::Groups {
+        let mut walk = Walk::new(History::new(11, number));
+        if walk.history.profile == Profile::Groups {
             continue;
         }
-        let mut store = history.blank();
         let mut files = BTreeMap::new();
         let mut reserved_by_fresh = 0;
-        while let Some(next) = history.next(&store) {
-            // Demand 3 speaks of stores reached from fresh by calls alone.
-            let Step::Call(call) = next else { continue };
-            let answer = model::run(&mut store, &call);
+        // Demand 3 speaks of stores reached from fresh by calls alone.
+        while let Some(call) = walk.call() {
+            let answer = model::run(&mut walk.store, &call);
             assert!(!matches!(answer.number, 2 | 9 | 10 | 11 | 12 | 14));
             if answer.number != 0 {
                 continue;
@@ -124,7 +123,7 @@ fn reads_give_the_plain_arrays_bytes_and_blocks_add_up() {
                 expected[..count as usize].copy_from_slice(&file.bytes(offset, count));
                 assert_eq!((answer.count, &answer.output), (count, &expected));
             }
-            assert!(blocks_add_up(&store, reserved_by_fresh));
+            assert!(blocks_add_up(&walk.store, reserved_by_fresh));
         }
     }
 }

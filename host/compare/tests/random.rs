@@ -5,8 +5,9 @@ use std::time::Duration;
 
 use compare::run::{Failure, Judged, Tally, Verdict, compare_history, judge};
 use compare::shrink::{describe, minimise};
-use model::{Call, Store, Volume};
+use model::{Call, Store};
 use oracle::{OracleAnswer, Outcome};
+use wrong::Wrong;
 
 #[test]
 fn random_calls_part_only_where_it_is_listed() {
@@ -24,29 +25,31 @@ fn random_calls_part_only_where_it_is_listed() {
     }
 }
 
-/// The model as the other side, so that a fault can be planted without the
-/// published Rust.
-fn honest(store: &mut Store, call: &Call) -> OracleAnswer {
-    let answer = model::run(store, call);
-    let outcome = match answer.number {
-        0 => Outcome::Accepted(answer.count),
-        3 => Outcome::Refused(oracle::Error::NotFound),
-        5 => Outcome::Refused(oracle::Error::LimitExceeded),
-        6 => Outcome::Shrinks,
-        7 => Outcome::Refused(oracle::Error::InvalidInput("lent time out of range")),
-        9 => corruption("backed data unit has no checksum"),
-        10 => corrupt("checksummed data unit is not fully backed"),
-        11 => corruption("nonzero data past EOF"),
-        12 => corruption("file data checksum mismatch"),
-        13 => Outcome::Refused(oracle::Error::NoSpace),
-        14 => corrupt("inode allocation count disagrees with extents"),
-        15 => Outcome::GroupBookFull,
-        16 => Outcome::ExtentBookFull,
-        number => panic!("refusal {number} is not compared"),
-    };
-    OracleAnswer {
-        outcome,
-        output: answer.output,
+/// A model in the Rust's place, so that a fault can be planted without the
+/// published source.
+fn in_its_place(wrong: Wrong) -> impl Fn(&mut Store, &Call) -> OracleAnswer {
+    move |store, call| {
+        let answer = wrong.run(store, call);
+        let outcome = match answer.number {
+            0 => Outcome::Accepted(answer.count),
+            3 => Outcome::Refused(oracle::Error::NotFound),
+            5 => Outcome::Refused(oracle::Error::LimitExceeded),
+            6 => Outcome::Shrinks,
+            7 => Outcome::Refused(oracle::Error::InvalidInput("lent time out of range")),
+            9 => corruption("backed data unit has no checksum"),
+            10 => corrupt("checksummed data unit is not fully backed"),
+            11 => corruption("nonzero data past EOF"),
+            12 => corruption("file data checksum mismatch"),
+            13 => Outcome::Refused(oracle::Error::NoSpace),
+            14 => corrupt("inode allocation count disagrees with extents"),
+            15 => Outcome::GroupBookFull,
+            16 => Outcome::ExtentBookFull,
+            _ => corrupt("a number that the Rust does not have"),
+        };
+        OracleAnswer {
+            outcome,
+            output: answer.output,
+        }
     }
 }
 
@@ -73,71 +76,30 @@ fn parts(judged: &Judged) -> bool {
 fn the_model_agrees_with_itself() {
     let mut tally = Tally::default();
     for number in 0..300 {
-        let result = compare_history(3, number, &honest, &mut tally);
+        let result = compare_history(3, number, &in_its_place(Wrong::NONE), &mut tally);
         assert!(result.is_ok(), "{:?}", result.err().map(|f| f.reason));
     }
 }
 
-/// Each of document 01's hollow builds, and some of its slips.
+/// Document 01's hollow builds and slips. A fill is not compared with the
+/// Rust.
 #[test]
 fn planted_faults_are_found_and_made_small() {
-    let stores_nothing = |store: &mut Store, call: &Call| match call {
-        Call::Write { .. } => honest(&mut store.clone(), call),
-        _ => honest(store, call),
+    let named = |wrong: &Wrong| {
+        let name = wrong.name();
+        name.starts_with("hollow: ") || name.starts_with("slip: ")
     };
-    let last_unit_only_acknowledged = |store: &mut Store, call: &Call| {
-        let told = honest(store, call);
-        if let Call::Write { object, offset, .. } = call
-            && let Outcome::Accepted(count @ 65_537..) = told.outcome
-        {
-            let mut volume = Volume::decode(store);
-            for group in &mut volume.groups {
-                if group.object == *object {
-                    group.slots[((offset + count - 1) / 65_536 % 256) as usize] = None;
-                }
-            }
-            volume.encode(store);
-        }
-        told
-    };
-    let reads_zeros = |store: &mut Store, call: &Call| {
-        let mut told = honest(store, call);
-        told.output.fill(0);
-        told
-    };
-    let no_blocks = |store: &mut Store, call: &Call| {
-        let before = store.clone();
-        let told = honest(store, call);
-        let volume = Volume::decode(store);
-        if volume.used.iter().filter(|used| !**used).count() < 2 && *store != before {
-            *store = before;
-            return OracleAnswer {
-                outcome: Outcome::Refused(oracle::Error::NoSpace),
-                output: told.output,
-            };
-        }
-        told
-    };
-    let forgets_a_retired_block = |store: &mut Store, call: &Call| {
-        let told = honest(store, call);
-        if let Some(byte) = store.retired.iter_mut().find(|byte| **byte != 0) {
-            *byte &= *byte - 1;
-        }
-        told
-    };
-    type Side<'a> = &'a dyn Fn(&mut Store, &Call) -> OracleAnswer;
-    let faults: [Side<'_>; 5] = [
-        &stores_nothing,
-        &last_unit_only_acknowledged,
-        &reads_zeros,
-        &no_blocks,
-        &forgets_a_retired_block,
-    ];
-    for faulty in faults {
-        let failure = first_failure(faulty);
-        let shows = |store: &Store, call: &Call| parts(&judge(store, call, faulty));
+    let faults: Vec<Wrong> = Wrong::all()
+        .filter(named)
+        .filter(|wrong| wrong.name() != "hollow: a fill not drawn from the store")
+        .collect();
+    assert_eq!(faults.len(), 10);
+    for wrong in faults {
+        let faulty = in_its_place(wrong);
+        let failure = first_failure(&faulty);
+        let shows = |store: &Store, call: &Call| parts(&judge(store, call, &faulty));
         assert!(shows(&failure.store, &failure.call), "{}", failure.reason);
-        let budget = Duration::from_secs(2);
+        let budget = Duration::from_secs(1);
         let (store, call) = minimise(&failure.store, &failure.call, &shows, budget);
         assert!(shows(&store, &call));
         assert!(store.image.len() <= failure.store.image.len());

@@ -4,6 +4,16 @@
 mod probe {
     unsafe extern "C" {
         pub fn sangueko_probe_crc32c(bytes: *const u8, len: usize) -> u32;
+        pub fn sangueko_probe_crc32c_repeated(bytes: *const u8, len: usize, times: usize) -> u32;
+        pub fn sangueko_probe_unit_checksum(
+            uuid: *const u8,
+            uuid_len: usize,
+            object: u64,
+            unit: u64,
+            bytes: *const u8,
+            len: usize,
+            piece: usize,
+        ) -> u32;
         pub fn sangueko_probe_is_zero(bytes: *const u8, len: usize) -> bool;
         pub fn sangueko_probe_copy(to: *mut u8, to_len: usize, from: *const u8, from_len: usize);
         pub fn sangueko_probe_count_set(map: *const u8, len: usize) -> usize;
@@ -40,6 +50,19 @@ mod probe {
 
 pub fn crc32c(bytes: &[u8]) -> u32 {
     unsafe { probe::sangueko_probe_crc32c(bytes.as_ptr(), bytes.len()) }
+}
+
+/// The CRC-32C of the bytes as many times one behind the other.
+pub fn crc32c_repeated(bytes: &[u8], times: usize) -> u32 {
+    unsafe { probe::sangueko_probe_crc32c_repeated(bytes.as_ptr(), bytes.len(), times) }
+}
+
+/// The checksum of a unit, its bytes fed in pieces of this length.
+pub fn unit_checksum(uuid: &[u8], object: u64, unit: u64, bytes: &[u8], piece: usize) -> u32 {
+    let (at, len) = (bytes.as_ptr(), bytes.len());
+    unsafe {
+        probe::sangueko_probe_unit_checksum(uuid.as_ptr(), uuid.len(), object, unit, at, len, piece)
+    }
 }
 
 pub fn is_zero(bytes: &[u8]) -> bool {

@@ -14,14 +14,11 @@ shared-slice-read-if1 c = search needs
 returns : tie.Need-returns
 returns c = search (fixed-tag, needs)
 
-add-is-zero : tie.Need-add-is-zero
-add-is-zero c = search needs
+add-le32 : tie.Need-add-le32
+add-le32 c = search needs
 
-add-is-zero-2 : tie.Need-add-is-zero-2
-add-is-zero-2 c = search needs
-
-is-zero-requires : tie.Need-is-zero-requires
-is-zero-requires c κs = search needs
+le32-requires : tie.Need-le32-requires
+le32-requires c κs = search needs
 
 returns-2 : tie.Need-returns-2
 returns-2 c = search (fixed-zeros, needs)
@@ -33,7 +30,6 @@ extent-fixed-spec =
     add-if1
     shared-slice-read-if1
     returns
-    add-is-zero
-    add-is-zero-2
-    is-zero-requires
+    add-le32
+    le32-requires
     returns-2)

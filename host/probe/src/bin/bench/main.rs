@@ -12,56 +12,91 @@ use std::time::Duration;
 const ROUNDS: u32 = 5;
 const SPAN: Duration = Duration::from_millis(40);
 
+/// Many short rounds, of which some fall between the turns of whatever else runs.
+const SHORT_ROUNDS: u32 = 200;
+const SHORT_SPAN: Duration = Duration::from_micros(500);
+
 fn filled(len: usize) -> Vec<u8> {
-    let mut x = 0x9e37_79b9_7f4a_7c15u64;
-    (0..len)
-        .map(|_| {
-            x ^= x << 13;
-            x ^= x >> 7;
-            x ^= x << 17;
-            x as u8
-        })
-        .collect()
+    let mut random = random::Rng::new(1);
+    (0..len).map(|_| random.next_u64() as u8).collect()
 }
 
 fn main() {
     println!("{:<52} {:>8} {:>8}", "", "ours", "theirs");
     crc();
+    pieces();
     ranges();
     maps();
     book();
     allocation();
 }
 
+/// The register goes from one feed to the next, on either side: what a call does that has lent its tables once.
 fn crc() {
-    let slicing = plain::SlicingBy8::new();
-    for (size, name) in [(4 << 10, "4 KiB"), (64 << 10, "64 KiB"), (1 << 20, "1 MiB")] {
-        let bytes = filled(size);
-        assert_eq!(proved::crc32c(&bytes), slicing.crc(&bytes));
-        let ours = || {
-            black_box(proved::crc32c(black_box(&bytes)));
-        };
-        let theirs = || {
-            black_box(slicing.crc(black_box(&bytes)));
-        };
-        speeds(
-            &format!("CRC-32C of {name}, and Rust's slicing by 8"),
-            size,
-            pair(ROUNDS, SPAN, ours, theirs),
-        );
-        if plain::crc_instruction(&bytes).is_some() {
-            let ours = || {
-                black_box(proved::crc32c(black_box(&bytes)));
-            };
-            let theirs = || {
-                black_box(plain::crc_instruction(black_box(&bytes)));
-            };
-            speeds(
-                &format!("CRC-32C of {name}, and the SSE4.2 instruction"),
-                size,
-                pair(ROUNDS, SPAN, ours, theirs),
-            );
+    let (by_8, by_16) = (plain::Slicing::<8>::new(), plain::Slicing::<16>::new());
+    let sizes = [
+        (1 << 10, "1 KiB"),
+        (4 << 10, "4 KiB"),
+        (16 << 10, "16 KiB"),
+        (64 << 10, "64 KiB"),
+        (1 << 20, "1 MiB"),
+    ];
+    for odd in [0, 1] {
+        for (size, name) in sizes {
+            let all = filled(size + odd);
+            let bytes = &all[odd..];
+            let name = format!("CRC-32C of {name}{}", ["", ", odd address"][odd]);
+            against(&format!("{name}, slicing by 8"), bytes, |c, s| {
+                by_8.feed(c, s)
+            });
+            against(&format!("{name}, slicing by 16"), bytes, |c, s| {
+                by_16.feed(c, s)
+            });
+            #[cfg(target_arch = "x86_64")]
+            if plain::instruction::present() {
+                let three = plain::instruction::Three::new();
+                // SAFETY of both: the instruction is there.
+                let one = |c, s: &[u8]| unsafe { plain::instruction::one(c, s) };
+                against(&format!("{name}, the instruction"), bytes, one);
+                let three = |c, s: &[u8]| unsafe { three.feed(c, s) };
+                against(&format!("{name}, it in three streams"), bytes, three);
+            }
         }
+    }
+}
+
+/// Both sides feed the same bytes again and again.
+fn against(name: &str, bytes: &[u8], feed: impl Fn(u32, &[u8]) -> u32) {
+    let times = ((1 << 18) / bytes.len()).max(1);
+    let theirs = |times| !(0..times).fold(!0, |c, _| feed(c, black_box(bytes)));
+    for times in [0, 1, 3] {
+        assert_eq!(proved::crc32c_repeated(bytes, times), theirs(times));
+    }
+    let ours = || {
+        black_box(proved::crc32c_repeated(black_box(bytes), times));
+    };
+    let theirs = || {
+        black_box(theirs(times));
+    };
+    let both = pair(SHORT_ROUNDS, SHORT_SPAN, ours, theirs);
+    speeds(name, times * bytes.len(), both);
+}
+
+/// A unit of 64 KiB block by block and in one piece, each less what a unit without bytes takes: the copy of the tables and the twenty bytes and uuid
+/// before the unit's own.
+fn pieces() {
+    let (uuid, bytes) = ([7; 16], filled(64 << 10));
+    let unit = |bytes: &[u8], piece: usize| {
+        black_box(proved::unit_checksum(&uuid, 9, 3, black_box(bytes), piece));
+    };
+    let short = |ours: &dyn Fn(), theirs: &dyn Fn()| pair(SHORT_ROUNDS, SHORT_SPAN, ours, theirs);
+    let (none, _) = short(&|| unit(&[], 1), &|| ());
+    for (piece, name) in [(4096, "4 KiB"), (1000, "1,000 bytes")] {
+        let (by_pieces, whole) = short(&|| unit(&bytes, piece), &|| unit(&bytes, bytes.len()));
+        times(
+            &format!("a unit of 64 KiB by {name}, and in one piece"),
+            (by_pieces - none, whole - none),
+        );
     }
 }
 

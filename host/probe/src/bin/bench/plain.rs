@@ -1,25 +1,25 @@
 //! The same jobs in plain Rust, written for speed: what the proved functions are held against.
 
-/// CRC-32C by tables, eight bytes at a time.
-pub struct SlicingBy8 {
-    tables: [[u32; 256]; 8],
+/// The generator less x^32, from the low bit up.
+const FEEDBACK: u32 = 0x82f6_3b78;
+
+/// The register after one bit of zero.
+fn turn(crc: u32) -> u32 {
+    (crc >> 1) ^ if crc & 1 == 1 { FEEDBACK } else { 0 }
 }
 
-impl SlicingBy8 {
+/// CRC-32C by tables, `N` bytes at a time.
+pub struct Slicing<const N: usize> {
+    tables: [[u32; 256]; N],
+}
+
+impl<const N: usize> Slicing<N> {
     pub fn new() -> Self {
-        let mut tables = [[0u32; 256]; 8];
-        for byte in 0..256u32 {
-            let mut crc = byte;
-            for _ in 0..8 {
-                crc = if crc & 1 == 1 {
-                    (crc >> 1) ^ 0x82f6_3b78
-                } else {
-                    crc >> 1
-                };
-            }
-            tables[0][byte as usize] = crc;
+        let mut tables = [[0u32; 256]; N];
+        for byte in 0..256 {
+            tables[0][byte] = (0..8).fold(byte as u32, |crc, _| turn(crc));
         }
-        for k in 1..8 {
+        for k in 1..N {
             for byte in 0..256 {
                 let before = tables[k - 1][byte];
                 tables[k][byte] = (before >> 8) ^ tables[0][(before & 0xff) as usize];
@@ -28,36 +28,45 @@ impl SlicingBy8 {
         Self { tables }
     }
 
-    pub fn crc(&self, bytes: &[u8]) -> u32 {
+    /// The register after these bytes.
+    #[inline(never)]
+    pub fn feed(&self, mut crc: u32, bytes: &[u8]) -> u32 {
         let t = &self.tables;
-        let mut crc = !0u32;
-        let mut words = bytes.chunks_exact(8);
-        for word in &mut words {
-            let x = u64::from_le_bytes(word.try_into().unwrap()) ^ u64::from(crc);
-            crc = t[7][(x & 0xff) as usize]
-                ^ t[6][(x >> 8 & 0xff) as usize]
-                ^ t[5][(x >> 16 & 0xff) as usize]
-                ^ t[4][(x >> 24 & 0xff) as usize]
-                ^ t[3][(x >> 32 & 0xff) as usize]
-                ^ t[2][(x >> 40 & 0xff) as usize]
-                ^ t[1][(x >> 48 & 0xff) as usize]
-                ^ t[0][(x >> 56) as usize];
+        let mut chunks = bytes.chunks_exact(N);
+        for chunk in &mut chunks {
+            let mut next = 0;
+            // The last bytes first: they do not wait for the register.
+            for k in (0..N / 8).rev() {
+                let word = u64::from_le_bytes(chunk[8 * k..8 * k + 8].try_into().unwrap());
+                let x = if k == 0 { word ^ u64::from(crc) } else { word };
+                for j in (0..8).rev() {
+                    next ^= t[N - 1 - 8 * k - j][(x >> (8 * j) & 0xff) as usize];
+                }
+            }
+            crc = next;
         }
-        for &byte in words.remainder() {
+        for &byte in chunks.remainder() {
             crc = (crc >> 8) ^ t[0][((crc ^ u32::from(byte)) & 0xff) as usize];
         }
-        !crc
+        crc
     }
 }
 
-/// CRC-32C by the processor's own instruction, if it has it.
+/// CRC-32C by the processor's own instruction.
 #[cfg(target_arch = "x86_64")]
-pub fn crc_instruction(bytes: &[u8]) -> Option<u32> {
+pub mod instruction {
+    use std::arch::x86_64::{_mm_crc32_u8, _mm_crc32_u64};
+
+    pub fn present() -> bool {
+        is_x86_feature_detected!("sse4.2")
+    }
+
+    /// The register after these bytes, in one stream.
     #[target_feature(enable = "sse4.2")]
-    fn run(bytes: &[u8]) -> u32 {
-        use std::arch::x86_64::{_mm_crc32_u8, _mm_crc32_u64};
+    #[inline(never)]
+    pub fn one(crc: u32, bytes: &[u8]) -> u32 {
         let mut words = bytes.chunks_exact(8);
-        let mut crc = u64::from(!0u32);
+        let mut crc = u64::from(crc);
         for word in &mut words {
             crc = _mm_crc32_u64(crc, u64::from_le_bytes(word.try_into().unwrap()));
         }
@@ -65,10 +74,64 @@ pub fn crc_instruction(bytes: &[u8]) -> Option<u32> {
         for &byte in words.remainder() {
             crc = _mm_crc32_u8(crc, byte);
         }
-        !crc
+        crc
     }
-    // SAFETY: the instruction is there.
-    is_x86_feature_detected!("sse4.2").then(|| unsafe { run(bytes) })
+
+    /// Bytes of each of the three streams, long ones first.
+    const STREAMS: [usize; 2] = [8192, 256];
+
+    /// What a register becomes after so many bytes of zero, by four tables, for each length of stream.
+    pub struct Three {
+        after: [[[u32; 256]; 4]; 2],
+    }
+
+    impl Three {
+        pub fn new() -> Self {
+            let after = STREAMS.map(|len| {
+                // The bits of the register, each after `len` bytes of zero.
+                let bits: Vec<u32> = (0..32)
+                    .map(|bit| (0..8 * len).fold(1u32 << bit, |crc, _| super::turn(crc)))
+                    .collect();
+                let sum = |k: usize, byte: usize| {
+                    (0..8)
+                        .filter(|j| byte >> j & 1 == 1)
+                        .fold(0, |x, j| x ^ bits[8 * k + j])
+                };
+                std::array::from_fn(|k| std::array::from_fn(|byte| sum(k, byte)))
+            });
+            Self { after }
+        }
+
+        /// The register after these bytes, in three streams that are put together again.
+        #[target_feature(enable = "sse4.2")]
+        #[inline(never)]
+        pub fn feed(&self, mut crc: u32, mut bytes: &[u8]) -> u32 {
+            for (len, t) in STREAMS.into_iter().zip(&self.after) {
+                let shift = |crc: u32| {
+                    t[0][(crc & 0xff) as usize]
+                        ^ t[1][(crc >> 8 & 0xff) as usize]
+                        ^ t[2][(crc >> 16 & 0xff) as usize]
+                        ^ t[3][(crc >> 24) as usize]
+                };
+                while bytes.len() >= 3 * len {
+                    let (a, rest) = bytes.split_at(len);
+                    let (b, rest) = rest.split_at(len);
+                    let (c, rest) = rest.split_at(len);
+                    let (mut x, mut y, mut z) = (u64::from(crc), 0, 0);
+                    let words =
+                        |s: &[u8], k: usize| u64::from_le_bytes(s[k..k + 8].try_into().unwrap());
+                    for k in (0..len).step_by(8) {
+                        x = _mm_crc32_u64(x, words(a, k));
+                        y = _mm_crc32_u64(y, words(b, k));
+                        z = _mm_crc32_u64(z, words(c, k));
+                    }
+                    crc = shift(shift(x as u32) ^ y as u32) ^ z as u32;
+                    bytes = rest;
+                }
+            }
+            one(crc, bytes)
+        }
+    }
 }
 
 /// The set bits of a map, word by word.

@@ -1,0 +1,60 @@
+-- `intake::books::files_right` meets its contract.
+-- Assumes nothing.
+use borrow.Author.Needs.{needs}
+use Prim.Native.Nat.{_-_, _≤_}
+use Rattle.intake.proofs.FileLaws.{Passed, Filed, passed-none, passed-more, filed-none, filed-more, filed-not, filed-done}
+use Rattle.intake.proofs.books.files_right.Statement.{statement}
+use Rattle.intake.proofs.books.files_right.Tie as tie
+
+abbrev Inv-loop : tie.InvT-loop
+Inv-loop cards n extents m j₀ i₀ j i = (j ≤ n) × Passed cards m extents j i × Filed n cards extents i
+
+abbrev μ-loop : tie.MeasureT-loop
+μ-loop cards n extents m j₀ i₀ j i = m - i
+
+loop-holds : tie.Need-loop-holds Inv-loop μ-loop
+loop-holds c = search (passed-none, filed-none, needs)
+
+mul-decode-extent : tie.Need-mul-decode-extent Inv-loop μ-loop
+mul-decode-extent c = search needs
+
+decode-extent-requires : tie.Need-decode-extent-requires Inv-loop μ-loop
+decode-extent-requires c κs = search needs
+
+card-from-requires : tie.Need-card-from-requires Inv-loop μ-loop
+card-from-requires c κs = search needs
+
+in-file-requires : tie.Need-in-file-requires Inv-loop μ-loop
+in-file-requires c κs = search needs
+
+returns : tie.Need-returns Inv-loop μ-loop
+returns c = search (filed-not, needs)
+
+add-i : tie.Need-add-i Inv-loop μ-loop
+add-i c = search needs
+
+loop-less : tie.Need-loop-less Inv-loop μ-loop
+loop-less c = search needs
+
+loop-again : tie.Need-loop-again Inv-loop μ-loop
+loop-again c = search (passed-more, filed-more, needs)
+
+returns-2 : tie.Need-returns-2 Inv-loop μ-loop
+returns-2 c = search (filed-done, needs)
+
+pub files-right-spec : {M : Type 1} → statement M
+files-right-spec =
+    tie.close
+    (tie.spec
+    Inv-loop
+    μ-loop
+    loop-holds
+    mul-decode-extent
+    decode-extent-requires
+    card-from-requires
+    in-file-requires
+    returns
+    add-i
+    loop-less
+    loop-again
+    returns-2)

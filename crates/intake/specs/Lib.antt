@@ -1,0 +1,4 @@
+pub mod BookTests
+pub mod Join
+pub mod LengthTests
+pub mod MapTests
