@@ -8,7 +8,7 @@ use Rattle.rules.specs.Lists.{range}
 use Rattle.rules.specs.Extent.{Extent, deviceEnd}
 use Rattle.rules.specs.Group.{Group, emptyGroup, checksumSlot}
 use Rattle.rules.specs.Rewrite.{Rewritten}
-use Rattle.rules.specs.Finish.{cutUnit, callRuns, takeIn, finishedExtents, setSlot}
+use Rattle.rules.specs.Finish.{cutUnit, callRuns, takeIn, finishedExtents, setSlot, finishedGroups}
 use Rattle.worked.proofs.Stores.{extent, computed}
 
 -- an extent of file 8
@@ -19,9 +19,9 @@ eighth logical physical count = record { object = 8; logical = logical; physical
 pub at-blocks : ℕ → List ℕ → Rewritten
 at-blocks unit blocks = record { unit = unit; bytes = []; checksum = 1; kept = []; blocks = blocks; new = []; superseded = [] }
 
--- groups by their keys, and their slot 1
+-- groups by their keys, and their slot 2
 pub keys : List Group → List (ℕ × ℕ × Option ℕ)
-keys gs = map (λ g. (g .object, g .number, checksumSlot g 1)) gs
+keys gs = map (λ g. (g .object, g .number, checksumSlot g 2)) gs
 
 pub record Left : Type 0 where
   -- "An extent answers its own [..] device end, the latter saturating"
@@ -32,7 +32,7 @@ pub record Left : Type 0 where
   pub cut : cutUnit 7 1 (extent 0 100 40 ∷ eighth 16 200 16 ∷ []) ≡ extent 0 100 16 ∷ extent 32 132 8 ∷ eighth 16 200 16 ∷ []
   pub cut-tail : cutUnit 7 1 (extent 10 100 10 ∷ extent 20 300 5 ∷ []) ≡ extent 10 100 6 ∷ []
   pub cut-head : cutUnit 7 1 (extent 16 100 17 ∷ []) ≡ extent 32 116 1 ∷ []
-  pub cut-none : cutUnit 7 1 (extent 0 100 16 ∷ extent 32 200 1 ∷ []) ≡ extent 0 100 16 ∷ extent 32 200 1 ∷ []
+  pub cut-none : cutUnit 7 1 (extent 0 100 16 ∷ extent 32 200 1 ∷ extent 40 300 2 ∷ []) ≡ extent 0 100 16 ∷ extent 32 200 1 ∷ extent 40 300 2 ∷ []
   -- "Over the call, its units' blocks adjoining in file and device form runs"
   pub one-unit : callRuns 7 (at-blocks 0 (4 ∷ 5 ∷ 7 ∷ 8 ∷ []) ∷ []) ≡ extent 0 4 2 ∷ extent 2 7 2 ∷ []
   pub two-units : callRuns 7 (at-blocks 0 (range 100 16) ∷ at-blocks 1 (116 ∷ 118 ∷ []) ∷ []) ≡ extent 0 100 17 ∷ extent 17 118 1 ∷ []
@@ -49,8 +49,10 @@ pub record Left : Type 0 where
   -- a unit between others
   pub finished : finishedExtents 7 (at-blocks 1 (116 ∷ 117 ∷ []) ∷ []) (extent 0 100 16 ∷ extent 16 50 2 ∷ []) ≡ extent 0 100 18 ∷ []
   -- "The unit's slot gets its checksum, in a group added if missing"
-  pub slot : keys (setSlot 7 257 5 (emptyGroup 6 1 ∷ emptyGroup 7 1 ∷ emptyGroup 8 1 ∷ [])) ≡ (6, 1, none) ∷ (7, 1, some 5) ∷ (8, 1, none) ∷ []
-  pub added : keys (setSlot 7 257 5 (emptyGroup 7 0 ∷ emptyGroup 7 2 ∷ [])) ≡ (7, 0, none) ∷ (7, 1, some 5) ∷ (7, 2, none) ∷ []
+  pub slot : keys (setSlot 7 258 5 (emptyGroup 6 1 ∷ emptyGroup 7 1 ∷ emptyGroup 8 1 ∷ [])) ≡ (6, 1, none) ∷ (7, 1, some 5) ∷ (8, 1, none) ∷ []
+  pub added : keys (setSlot 7 258 5 (emptyGroup 7 0 ∷ emptyGroup 7 2 ∷ [])) ≡ (7, 0, none) ∷ (7, 1, some 5) ∷ (7, 2, none) ∷ []
+  -- each unit its own
+  pub slots : keys (finishedGroups 7 (at-blocks 2 [] ∷ at-blocks 258 [] ∷ []) []) ≡ (7, 0, some 1) ∷ (7, 1, some 1) ∷ []
 
 pub left : Left
 unfolding computed eighth at-blocks keys
@@ -74,4 +76,5 @@ left = record {
   finished = refl;
   slot = refl;
   added = refl;
+  slots = refl;
 }

@@ -17,7 +17,10 @@ use Rattle.rules.specs.Store.{Store, Volume}
 use Rattle.rules.specs.Units.{Change, clipped, unitsOf, writeChange, growChange, writeUnits, growUnits, validLength}
 use Rattle.rules.specs.Kept.{retainedBlocks, superseded}
 use Rattle.rules.specs.Inspect.{backedUnder}
-use Rattle.rules.specs.Read.{readLength}
+use Rattle.rules.specs.Inspect.Inspected.{damaged, hole, checked}
+use Rattle.rules.specs.Read.{Checked, readLength, thenUnits}
+use Rattle.rules.specs.Read.Checked.{failed, bytes}
+use Rattle.rules.specs.Refusal.Refusal.{no-checksum, checksum-differs}
 use Rattle.rules.specs.Refusal.{Outcome, firstOf}
 use Rattle.rules.specs.Arguments.{pastLimit, timeWrong}
 use Rattle.rules.specs.Write.{writeFile, planOf, carriedOut}
@@ -71,6 +74,7 @@ pub record Spans : Type 0 where
   pub not-full : keepsOf 4095 8192 ≡ none ∷ none ∷ []
   pub full : keepsOf 4096 8192 ≡ some 10 ∷ none ∷ []
   pub second-part : keepsOf 4100 4200 ≡ some 10 ∷ none ∷ []
+  pub not-after : keepsOf 8192 5000 ≡ some 10 ∷ none ∷ []
   -- nor is one of a unit that was not checked
   pub unchecked : retainedBlocks mostRuns (growChange 7 8192 8192) 0 false (some 10 ∷ some 11 ∷ []) ≡ none ∷ none ∷ []
   -- an old block past those that the unit has then
@@ -82,6 +86,10 @@ pub record Spans : Type 0 where
   pub read-rest : readLength 10 3 100 ≡ 7
   pub read-room : readLength 10 3 4 ≡ 4
   pub read-most : readLength 2000000 0 2000000 ≡ 1048576
+  -- units of a read one after another: a hole's zeros, the first refusal, and none handed out before one
+  pub hole-bytes : thenUnits 3 hole (bytes (1 ∷ [])) ≡ bytes (0 ∷ 0 ∷ 0 ∷ 1 ∷ [])
+  pub first-refusal : thenUnits 3 (damaged no-checksum) (failed checksum-differs) ≡ failed no-checksum
+  pub later-refusal : thenUnits 3 (checked (1 ∷ 2 ∷ 3 ∷ [])) (failed checksum-differs) ≡ failed checksum-differs
 
 pub spans : Spans
 unfolding computed over unitsOfByte keepsOf
@@ -107,6 +115,7 @@ spans = record {
   not-full = refl;
   full = refl;
   second-part = refl;
+  not-after = refl;
   unchecked = refl;
   past = refl;
   read-end = refl;
@@ -115,17 +124,20 @@ spans = record {
   read-rest = refl;
   read-room = refl;
   read-most = refl;
+  hole-bytes = refl;
+  first-refusal = refl;
+  later-refusal = refl;
 }
 
 -- "at most 1,048,576 bytes are taken": one more is not
-pub clips : (bytes : List ℕ) → length bytes ≡ 1048577 → length (clipped bytes) ≡ 1048576
+pub clips : (given : List ℕ) → length given ≡ 1048577 → length (clipped given) ≡ 1048576
 unfolding computed
-clips bytes h = length-take-le 1048576 bytes (omega (arith, h))
+clips given h = length-take-le 1048576 given (omega (arith, h))
 
 -- 5: "would end, after clipping": such a write up to the last byte that a file can have is carried out, and answers what was taken
-pub after-clipping : (bytes : List ℕ) → length bytes ≡ 1048577 → (s : Store) (card : Card)
-    → writeFile mostRuns 9223372036853727231 bytes (time 8 9) s card
-    ≡ carriedOut 1048576 (writeChange (card .object) (card .size) 9223372036853727231 bytes) (time 8 9) s
-    (planOf mostRuns writeUnits (writeChange (card .object) (card .size) 9223372036853727231 bytes) card s)
+pub after-clipping : (given : List ℕ) → length given ≡ 1048577 → (s : Store) (card : Card)
+    → writeFile mostRuns 9223372036853727231 given (time 8 9) s card
+    ≡ carriedOut 1048576 (writeChange (card .object) (card .size) 9223372036853727231 given) (time 8 9) s
+    (planOf mostRuns writeUnits (writeChange (card .object) (card .size) 9223372036853727231 given) card s)
 unfolding writeFile if_then_else_ firstOf pastLimit timeWrong
-after-clipping bytes h s card = rw (h, clips bytes h) refl
+after-clipping given h s card = rw (h, clips given h) refl

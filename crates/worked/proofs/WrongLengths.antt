@@ -5,7 +5,7 @@ use mathlib.Core.Path.{_≡_, refl}
 use mathlib.Core.List.{List, [], _∷_, _++_}
 use mathlib.Core.Bool.{true, false}
 use Prim.Native.Nat.{ℕ, _+_, _*_}
-use lib.ListN.{length, replicate}
+use lib.ListN.{length, take, drop, replicate}
 use Rattle.rules.specs.Bytes.{patch}
 use Rattle.rules.specs.Head.{encodeHead}
 use Rattle.rules.specs.Store.{Store, lent}
@@ -63,9 +63,9 @@ pub record Wrong : Type 0 where
   -- "or has over 1,048,575 places"
   pub most-places : (book : List ℕ) → length book ≡ 1048575 * 33 → bookFits 33 book ≡ true
   pub places-over : (book : List ℕ) → length book ≡ 1048576 * 33 → bookFits 33 book ≡ false
-  -- "a head is not 28 bytes"
-  pub head-short : answer (look fill) (withHead (replicate 27 0) (small 1 2)) ≡ (1, 0)
-  pub head-long : answer (look fill) (withHead (small 1 2 .head ++ (0 ∷ [])) (small 1 2)) ≡ (1, 0)
+  -- "a head is not 28 bytes": one zero less and one more where its number of blocks begins, so that its fields stay
+  pub head-short : answer (look fill) (withHead (take 16 (small 1 2 .head) ++ drop 17 (small 1 2 .head)) (small 1 2)) ≡ (1, 0)
+  pub head-long : answer (look fill) (withHead (take 16 (small 1 2 .head) ++ (0 ∷ drop 16 (small 1 2 .head))) (small 1 2)) ≡ (1, 0)
   -- "or [..] has blocks other than the image's": the maps would fit 3 and 5 blocks too
   pub head-right : answer (look fill) (headed 4 1 1 1 1 (small 1 2)) ≡ (0, 500)
   pub blocks-fewer : answer (look fill) (headed 3 1 1 1 1 (small 1 2)) ≡ (1, 0)
