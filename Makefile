@@ -1,4 +1,4 @@
-# The two commands of README.md, and what they are made of. The Rattle kit (rt), cargo and python3 are all that is needed.
+# The two commands of README.md, and what they are made of. The Rattle kit (rt), cargo, cc and python3 are all that is needed.
 .PHONY: demo test bench clean
 
 # The main job: prove what is claimed, and run the programs on it.
@@ -13,6 +13,8 @@ test:
 bench:
 	rt staticlib probe
 	cargo run --release --offline --quiet --manifest-path host/probe/Cargo.toml --bin bench
+	rt staticlib volume
+	cargo bench --offline --quiet --manifest-path host/sangueko/Cargo.toml --bench refusals
 
 clean:
-	rm -rf target host/target host/probe/target
+	rm -rf target host/target host/probe/target host/sangueko/target

@@ -1,0 +1,129 @@
+/*
+ * How much stack each call takes: it runs on a stack filled with one byte, and the lowest byte that changed is sought. The store has a file with a block
+ * and a checksum, so that every test is made. Exits with 1 where a call takes more than the header says.
+ */
+#define _XOPEN_SOURCE 700
+#define _DEFAULT_SOURCE
+
+#include "sangueko.h"
+
+#include <pthread.h>
+#include <stdio.h>
+#include <stdlib.h>
+#include <string.h>
+#include <sys/mman.h>
+
+#define STACK (256 * 1024)
+#define PAINT 0x5a
+
+static uint8_t image[8 * SANGUEKO_BLOCK_BYTES];
+static uint8_t head[SANGUEKO_HEAD_BYTES];
+static uint8_t cards[4 * SANGUEKO_CARD_BYTES];
+static uint8_t extents[4 * SANGUEKO_EXTENT_BYTES];
+static uint8_t groups[2 * SANGUEKO_GROUP_BYTES];
+static uint8_t used[SANGUEKO_MAP_BYTES(8)];
+static uint8_t retired[SANGUEKO_MAP_BYTES(8)];
+static const uint8_t uuid[SANGUEKO_UUID_BYTES] = { 1 };
+
+#define LENT                                                                                                                       \
+    image, sizeof image, head, sizeof head, cards, sizeof cards, extents, sizeof extents, groups, sizeof groups, used, sizeof used, \
+        retired, sizeof retired
+
+static struct sangueko_answer fresh(void)
+{
+    return sangueko_fresh(LENT, uuid, sizeof uuid, 1);
+}
+
+static struct sangueko_answer enter(void)
+{
+    return sangueko_enter(LENT, 5, 1, 2);
+}
+
+static struct sangueko_answer settle(void)
+{
+    return sangueko_settle(LENT);
+}
+
+static struct sangueko_answer fill(void)
+{
+    return sangueko_fill(LENT);
+}
+
+/* A store of file 7 with one block, its checksum, and a retired block. */
+static void prepare(void)
+{
+    sangueko_fresh(LENT, uuid, sizeof uuid, 1);
+    sangueko_enter(LENT, 7, 0, 0);
+    cards[14] = 0x20; /* size 4,096: 63 bits from byte 8 on */
+    extents[7] = groups[7] = 7;
+    extents[8] = 3;
+    extents[17] = extents[25] = 1; /* from block 1 on, one block */
+    groups[8] = 4;
+    groups[17] = 1; /* slot 0 */
+    groups[49] = 9;
+    head[25] |= 0x10; /* one extent */
+    head[27] |= 1;    /* one group */
+    used[0] = 7;
+    retired[0] = 4;
+}
+
+struct job {
+    struct sangueko_answer (*call)(void);
+    struct sangueko_answer answer;
+    uint8_t *from;
+};
+
+static void *run(void *lent)
+{
+    struct job *job = lent;
+    job->from = __builtin_frame_address(0);
+    job->answer = job->call();
+    return NULL;
+}
+
+/* Bytes of stack below the caller of the call. */
+static size_t depth(struct job *job)
+{
+    pthread_attr_t attributes;
+    pthread_t thread;
+    uint8_t *stack = mmap(NULL, STACK, PROT_READ | PROT_WRITE, MAP_PRIVATE | MAP_ANONYMOUS, -1, 0);
+    if (stack == MAP_FAILED) {
+        perror("mmap");
+        exit(2);
+    }
+    memset(stack, PAINT, STACK);
+    if (pthread_attr_init(&attributes) != 0 || pthread_attr_setstack(&attributes, stack, STACK) != 0 ||
+        pthread_create(&thread, &attributes, run, job) != 0 || pthread_join(thread, NULL) != 0) {
+        fprintf(stderr, "no thread\n");
+        exit(2);
+    }
+    uint8_t *lowest = stack;
+    while (lowest < job->from && *lowest == PAINT)
+        lowest++;
+    return (size_t)(job->from - lowest);
+}
+
+int main(void)
+{
+    static const struct {
+        const char *name;
+        struct sangueko_answer (*call)(void);
+        uint64_t count;
+    } calls[] = { { "fresh", fresh, 0 }, { "enter", enter, 0 }, { "settle", settle, 1 }, { "fill", fill, 375 } };
+    int failed = 0;
+    printf("stack:");
+    for (size_t i = 0; i < sizeof calls / sizeof calls[0]; i++) {
+        struct job job = { .call = calls[i].call };
+        prepare();
+        size_t bytes = depth(&job);
+        printf(" %s %zu", calls[i].name, bytes);
+        if (job.answer.number != 0 || job.answer.count != calls[i].count) {
+            printf(" (number %u)", (unsigned)job.answer.number);
+            failed = 1;
+        }
+        if (bytes > SANGUEKO_STACK_BYTES)
+            failed = 1;
+    }
+    printf(" bytes, of %d at most%s\n", SANGUEKO_STACK_BYTES, failed ? ": failed" : "");
+    return failed;
+}

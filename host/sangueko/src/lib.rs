@@ -1,0 +1,64 @@
+//! A store of files in buffers that the caller lends: the proved library as
+//! safe Rust.
+//!
+//! A store is seven buffers: the image, which holds the blocks, the head, the
+//! books of cards (one for each file), extents and groups, and the maps of
+//! used and retired blocks. [`Store`] lends seven slices to a call; [`StoreBuf`]
+//! owns seven of the right lengths.
+//!
+//! A call gives its answer or a [`Refusal`], and a refused call changes no
+//! byte. A call takes any buffers: what it cannot work on it refuses.
+//!
+//! ```
+//! use sangueko::{Places, Refusal, StoreBuf};
+//!
+//! let places = Places { cards: 4, extents: 32, groups: 4 };
+//! let mut buffers = StoreBuf::new(8, places)?;
+//! let mut store = buffers.lend();
+//! store.fresh(&[7; 16], 1)?;
+//! store.enter(7, 1_700_000_000, 0)?;
+//! assert_eq!(store.enter(7, 1_700_000_000, 0), Err(Refusal::CardExists));
+//! assert_eq!(store.fill(), Ok(125)); // one block of eight
+//! # Ok::<(), Refusal>(())
+//! ```
+//!
+//! The library keeps no state, allocates nothing and takes less than
+//! [`STACK_BYTES`] of stack.
+
+mod buffers;
+mod ffi;
+mod refusal;
+mod store;
+
+pub use buffers::{Places, StoreBuf};
+pub use refusal::Refusal;
+pub use store::Store;
+
+/// Bytes of a block.
+pub const BLOCK_BYTES: usize = 4_096;
+/// Bytes of the head.
+pub const HEAD_BYTES: usize = 28;
+/// Bytes of a card, the record of a file.
+pub const CARD_BYTES: usize = 32;
+/// Bytes of an extent.
+pub const EXTENT_BYTES: usize = 33;
+/// Bytes of a group of checksums.
+pub const GROUP_BYTES: usize = 1_073;
+/// Bytes of the uuid that [`Store::fresh`] is given.
+pub const UUID_BYTES: usize = 16;
+/// Blocks of a store at most.
+pub const MOST_BLOCKS: usize = 65_536;
+/// Places of a book at most.
+pub const MOST_PLACES: usize = 1_048_575;
+/// Stack that a call takes at most.
+pub const STACK_BYTES: usize = 4_096;
+
+/// Bytes of a map of so many blocks: 8 for each 64 blocks begun.
+///
+/// ```
+/// assert_eq!(sangueko::map_bytes(64), 8);
+/// assert_eq!(sangueko::map_bytes(65), 16);
+/// ```
+pub const fn map_bytes(blocks: usize) -> usize {
+    blocks.div_ceil(64) * 8
+}

@@ -1,0 +1,113 @@
+//! The calls on a store in lent buffers.
+
+use crate::{Refusal, ffi};
+
+/// The seven buffers of a store, lent. They may hold anything: a call that
+/// cannot work on them is refused.
+///
+/// ```
+/// use sangueko::{Refusal, Store};
+///
+/// let (mut image, mut head) = ([0; 2 * 4096], [0; 28]);
+/// let (mut used, mut retired) = ([0; 8], [0; 8]);
+/// let mut store = Store {
+///     image: &mut image,
+///     head: &mut head,
+///     cards: &mut [],
+///     extents: &mut [],
+///     groups: &mut [],
+///     used: &mut used,
+///     retired: &mut retired,
+/// };
+/// assert_eq!(store.fresh(&[1; 16], 3), Err(Refusal::WrongLength)); // it has two blocks
+/// assert_eq!(store.fresh(&[1; 16], 1), Ok(0));
+/// assert_eq!(store.fill(), Ok(500));
+/// assert_eq!(used, [1, 0, 0, 0, 0, 0, 0, 0]);
+/// ```
+#[derive(Debug)]
+pub struct Store<'a> {
+    /// 1 to [`MOST_BLOCKS`](crate::MOST_BLOCKS) blocks of
+    /// [`BLOCK_BYTES`](crate::BLOCK_BYTES).
+    pub image: &'a mut [u8],
+    /// [`HEAD_BYTES`](crate::HEAD_BYTES).
+    pub head: &'a mut [u8],
+    /// Places of [`CARD_BYTES`](crate::CARD_BYTES), one for each file.
+    pub cards: &'a mut [u8],
+    /// Places of [`EXTENT_BYTES`](crate::EXTENT_BYTES).
+    pub extents: &'a mut [u8],
+    /// Places of [`GROUP_BYTES`](crate::GROUP_BYTES).
+    pub groups: &'a mut [u8],
+    /// [`map_bytes`](crate::map_bytes) of the number of blocks.
+    pub used: &'a mut [u8],
+    /// The same.
+    pub retired: &'a mut [u8],
+}
+
+impl Store<'_> {
+    /// Makes an empty store, whatever the buffers hold: no files, the first
+    /// `reserved` blocks used and kept from files for good, all others free.
+    /// The image stays as it is. Answers 0.
+    ///
+    /// # Errors
+    ///
+    /// [`WrongLength`](Refusal::WrongLength): of a buffer, or of the uuid,
+    /// which has 16 bytes; or there are fewer blocks than `reserved`.
+    pub fn fresh(&mut self, uuid: &[u8], reserved: u64) -> Result<u64, Refusal> {
+        ffi::fresh(self, uuid, reserved)
+    }
+
+    /// Adds the file `object`, of size 0 and without blocks, last changed at
+    /// the time given. Answers 0.
+    ///
+    /// # Errors
+    ///
+    /// In this order: [`WrongLength`](Refusal::WrongLength),
+    /// [`BrokenRule`](Refusal::BrokenRule),
+    /// [`CardExists`](Refusal::CardExists), [`BadTime`](Refusal::BadTime),
+    /// [`NoCardPlace`](Refusal::NoCardPlace).
+    ///
+    /// ```
+    /// # use sangueko::{Places, Refusal, StoreBuf};
+    /// # let mut buffers = StoreBuf::new(1, Places { cards: 1, extents: 0, groups: 0 })?;
+    /// # let mut store = buffers.lend();
+    /// # store.fresh(&[0; 16], 0)?;
+    /// assert_eq!(store.enter(7, 0, 1_000_000_000), Err(Refusal::BadTime));
+    /// assert_eq!(store.enter(7, 0, 999_999_999), Ok(0));
+    /// assert_eq!(store.enter(8, 0, 0), Err(Refusal::NoCardPlace));
+    /// # Ok::<(), Refusal>(())
+    /// ```
+    pub fn enter(&mut self, object: u64, seconds: u64, nanoseconds: u64) -> Result<u64, Refusal> {
+        ffi::enter(self, object, seconds, nanoseconds)
+    }
+
+    /// Lets the retired blocks go, which are free afterwards. Answers how many
+    /// they were.
+    ///
+    /// # Errors
+    ///
+    /// In this order: [`WrongLength`](Refusal::WrongLength),
+    /// [`BrokenRule`](Refusal::BrokenRule).
+    ///
+    /// ```
+    /// # use sangueko::{Places, Refusal, StoreBuf};
+    /// # let mut buffers = StoreBuf::new(8, Places { cards: 1, extents: 0, groups: 0 })?;
+    /// # let mut store = buffers.lend();
+    /// # store.fresh(&[0; 16], 1)?;
+    /// assert_eq!(store.settle(), Ok(0)); // none in a fresh store
+    /// # Ok::<(), Refusal>(())
+    /// ```
+    pub fn settle(&mut self) -> Result<u64, Refusal> {
+        ffi::settle(self)
+    }
+
+    /// How full the store is: the used blocks times 1,000, divided by all
+    /// blocks, rounded down.
+    ///
+    /// # Errors
+    ///
+    /// In this order: [`WrongLength`](Refusal::WrongLength),
+    /// [`BrokenRule`](Refusal::BrokenRule).
+    pub fn fill(&self) -> Result<u64, Refusal> {
+        ffi::fill(self)
+    }
+}

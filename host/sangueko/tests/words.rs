@@ -1,0 +1,80 @@
+//! The refusals in words, and the C header beside this crate.
+
+use std::collections::BTreeSet;
+use std::error::Error;
+
+use sangueko::Refusal;
+
+#[test]
+fn the_numbers_are_1_to_16() {
+    let numbers: Vec<u32> = Refusal::ALL.iter().map(|r| r.number()).collect();
+    assert_eq!(numbers, (1..=16).collect::<Vec<u32>>());
+    for refusal in Refusal::ALL {
+        assert_eq!(Refusal::of(refusal.number()), Some(refusal));
+    }
+    assert_eq!(Refusal::of(0).or(Refusal::of(17)), None);
+}
+
+#[test]
+fn each_refusal_says_what_is_wrong_and_what_to_do() {
+    let texts: BTreeSet<String> = Refusal::ALL.iter().map(Refusal::to_string).collect();
+    assert_eq!(texts.len(), 16);
+    for text in &texts {
+        let (wrong, to_do) = text.split_once(": ").expect("two parts");
+        assert!(!wrong.is_empty() && !to_do.is_empty(), "{text}");
+        assert!(text.is_ascii() && !text.contains("  "), "{text}");
+    }
+    let _: &dyn Error = &Refusal::WrongLength;
+}
+
+const HEADER: &str = include_str!("../../../include/sangueko.h");
+
+/// WrongLength as WRONG_LENGTH.
+fn in_capitals(name: &str) -> String {
+    let mut capitals = String::new();
+    for (at, letter) in name.char_indices() {
+        if at > 0 && letter.is_uppercase() {
+            capitals.push('_');
+        }
+        capitals.push(letter.to_ascii_uppercase());
+    }
+    capitals
+}
+
+#[test]
+fn the_header_has_the_same_numbers() {
+    let listed: Vec<&str> = HEADER
+        .lines()
+        .map(|line| line.trim().trim_end_matches(','))
+        .filter(|line| line.starts_with("SANGUEKO_") && line.contains(" = "))
+        .collect();
+    let expected = Refusal::ALL.map(|r| {
+        let name = in_capitals(&format!("{r:?}"));
+        format!("SANGUEKO_{name} = {}", r.number())
+    });
+    assert_eq!(listed, expected);
+}
+
+#[test]
+fn the_header_has_the_same_sizes() {
+    let sizes = [
+        ("BLOCK_BYTES", sangueko::BLOCK_BYTES),
+        ("HEAD_BYTES", sangueko::HEAD_BYTES),
+        ("CARD_BYTES", sangueko::CARD_BYTES),
+        ("EXTENT_BYTES", sangueko::EXTENT_BYTES),
+        ("GROUP_BYTES", sangueko::GROUP_BYTES),
+        ("UUID_BYTES", sangueko::UUID_BYTES),
+        ("MOST_BLOCKS", sangueko::MOST_BLOCKS),
+        ("MOST_PLACES", sangueko::MOST_PLACES),
+        ("STACK_BYTES", sangueko::STACK_BYTES),
+    ];
+    let defined: Vec<&str> = HEADER
+        .lines()
+        .filter_map(|line| line.strip_prefix("#define SANGUEKO_"))
+        .filter(|rest| *rest != "H" && !rest.starts_with("MAP_BYTES("))
+        .collect();
+    assert_eq!(
+        defined,
+        sizes.map(|(name, value)| format!("{name} {value}"))
+    );
+}

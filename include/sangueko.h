@@ -1,0 +1,167 @@
+/*
+ * Sangueko: a store of files in buffers that the caller lends. The archive is libvolume.a, which `rt staticlib volume` writes to target/staticlib/, for
+ * x86-64 and the C calling convention. It asks nothing of its surroundings but the C library's memcpy, memmove, memset and bcmp.
+ *
+ * A store is seven buffers, and every call is lent all of them, in this order, each as a pointer and its length in bytes:
+ *
+ *   image    the blocks, 1 to 65,536 of SANGUEKO_BLOCK_BYTES
+ *   head     SANGUEKO_HEAD_BYTES
+ *   cards    a place of SANGUEKO_CARD_BYTES for each file
+ *   extents  places of SANGUEKO_EXTENT_BYTES
+ *   groups   places of SANGUEKO_GROUP_BYTES
+ *   used     SANGUEKO_MAP_BYTES of the number of blocks
+ *   retired  the same
+ *
+ * The three books (cards, extents, groups) have 0 to SANGUEKO_MOST_PLACES places each. The caller chooses the lengths once, calls sangueko_fresh, and lends
+ * buffers of the same lengths from then on; the buffers, kept as they are, are the store. sangueko_enter adds a file.
+ *
+ * A call answers a number and a count. Number 0: it did its work, and the count is its answer. Any other number is one of enum sangueko_refusal: the
+ * call was refused, its count is 0 and no byte of any buffer has changed. A call tries its refusals in the order of their numbers and gives the first
+ * that applies. It takes any bytes, lengths and numbers whatever: what it cannot work on it refuses.
+ *
+ * Pointers. A buffer that a call takes as `const` is only read. Each buffer must be readable (the others: writable) for its whole length during the call,
+ * and a buffer that is not `const` must not overlap another of the same call. No alignment is asked for. The pointer of an empty buffer may be any
+ * pointer that is not null.
+ *
+ * Threads. The library keeps no state and allocates nothing. Calls may run at the same time in any threads on stores that do not overlap, and on one
+ * store where all of them take its buffers as `const`.
+ *
+ * Stack. No call takes more than SANGUEKO_STACK_BYTES of stack.
+ */
+#ifndef SANGUEKO_H
+#define SANGUEKO_H
+
+#include <stddef.h>
+#include <stdint.h>
+
+#ifdef __cplusplus
+extern "C" {
+#endif
+
+/* Bytes of a block, of the head, and of a record in each book. */
+#define SANGUEKO_BLOCK_BYTES 4096
+#define SANGUEKO_HEAD_BYTES 28
+#define SANGUEKO_CARD_BYTES 32
+#define SANGUEKO_EXTENT_BYTES 33
+#define SANGUEKO_GROUP_BYTES 1073
+
+/* Bytes of a map of so many blocks: 8 for each 64 blocks begun. */
+#define SANGUEKO_MAP_BYTES(blocks) (((size_t)(blocks) + 63) / 64 * 8)
+
+/* Bytes of the uuid that sangueko_fresh is given. */
+#define SANGUEKO_UUID_BYTES 16
+
+/* Blocks of a store at most, and places of a book at most. */
+#define SANGUEKO_MOST_BLOCKS 65536
+#define SANGUEKO_MOST_PLACES 1048575
+
+/* Stack that a call takes at most. */
+#define SANGUEKO_STACK_BYTES 4096
+
+/*
+ * Why a call was refused. The calls below give 1, 2, 4, 7 and 8; the other numbers are those of writing, growing and reading, which this archive does
+ * not have yet.
+ */
+enum sangueko_refusal {
+    /* A buffer's length is wrong, or the head does not fit the lengths: it counts other blocks than the image's, more records than there are places or
+     * more reserved blocks than blocks. For sangueko_fresh, which does not read the head: also the uuid's length, and more reserved blocks than blocks. */
+    SANGUEKO_WRONG_LENGTH = 1,
+    /* A book or a map breaks a rule of the format: the store is damaged, or is none. */
+    SANGUEKO_BROKEN_RULE = 2,
+    /* There is no file of this number. */
+    SANGUEKO_NO_CARD = 3,
+    /* There is a file of this number already. */
+    SANGUEKO_CARD_EXISTS = 4,
+    /* The file would end past byte 2^63 - 1. */
+    SANGUEKO_PAST_LIMIT = 5,
+    /* The file is larger than the size asked for. */
+    SANGUEKO_BELOW_SIZE = 6,
+    /* The time has over 2^63 - 1 seconds, or 1,000,000,000 nanoseconds or more. */
+    SANGUEKO_BAD_TIME = 7,
+    /* Every place for a card is taken. */
+    SANGUEKO_NO_CARD_PLACE = 8,
+    /* A unit has blocks but no checksum. */
+    SANGUEKO_NO_CHECKSUM = 9,
+    /* A unit has a checksum but not all of its blocks. */
+    SANGUEKO_NOT_BACKED = 10,
+    /* A byte past the file's end in its last block is not zero. */
+    SANGUEKO_NONZERO_PAST_END = 11,
+    /* A unit's bytes do not have its checksum. */
+    SANGUEKO_CHECKSUM_DIFFERS = 12,
+    /* Too few blocks are free. */
+    SANGUEKO_NO_SPACE = 13,
+    /* The card's count of blocks disagrees with the blocks, or would grow past 2^35 - 1. */
+    SANGUEKO_COUNT_DISAGREES = 14,
+    /* Too few places for groups. */
+    SANGUEKO_NO_GROUP_PLACE = 15,
+    /* Too few places for extents. */
+    SANGUEKO_NO_EXTENT_PLACE = 16
+};
+
+/* What a call answers: number 0 and a count, or the number of its refusal and count 0. */
+struct sangueko_answer {
+    uint32_t number;
+    uint64_t count;
+};
+
+/*
+ * Makes an empty store, whatever the buffers hold: no files, the first `reserved` blocks used and kept from files for good, all others free. The image
+ * stays as it is. The uuid has SANGUEKO_UUID_BYTES bytes.
+ * Count: 0. Refused by 1.
+ */
+struct sangueko_answer sangueko_fresh(
+    const uint8_t *image, size_t image_len,
+    uint8_t *head, size_t head_len,
+    uint8_t *cards, size_t cards_len,
+    uint8_t *extents, size_t extents_len,
+    uint8_t *groups, size_t groups_len,
+    uint8_t *used, size_t used_len,
+    uint8_t *retired, size_t retired_len,
+    const uint8_t *uuid, size_t uuid_len,
+    uint64_t reserved);
+
+/*
+ * Adds the file `object`, of size 0 and without blocks, last changed at the time given. Any number may name a file.
+ * Count: 0. Refused, in this order, by 1, 2, 4 (there is such a file), 7 (the time), 8 (no place for its card).
+ */
+struct sangueko_answer sangueko_enter(
+    const uint8_t *image, size_t image_len,
+    uint8_t *head, size_t head_len,
+    uint8_t *cards, size_t cards_len,
+    const uint8_t *extents, size_t extents_len,
+    const uint8_t *groups, size_t groups_len,
+    const uint8_t *used, size_t used_len,
+    const uint8_t *retired, size_t retired_len,
+    uint64_t object, uint64_t seconds, uint64_t nanoseconds);
+
+/*
+ * Lets the retired blocks go: those that files have given up, but that stay used until this call. They are free afterwards.
+ * Count: how many they were. Refused, in this order, by 1, 2.
+ */
+struct sangueko_answer sangueko_settle(
+    const uint8_t *image, size_t image_len,
+    const uint8_t *head, size_t head_len,
+    const uint8_t *cards, size_t cards_len,
+    const uint8_t *extents, size_t extents_len,
+    const uint8_t *groups, size_t groups_len,
+    uint8_t *used, size_t used_len,
+    uint8_t *retired, size_t retired_len);
+
+/*
+ * Tells how full the store is; changes nothing.
+ * Count: the used blocks times 1,000, divided by all blocks, rounded down. Refused, in this order, by 1, 2.
+ */
+struct sangueko_answer sangueko_fill(
+    const uint8_t *image, size_t image_len,
+    const uint8_t *head, size_t head_len,
+    const uint8_t *cards, size_t cards_len,
+    const uint8_t *extents, size_t extents_len,
+    const uint8_t *groups, size_t groups_len,
+    const uint8_t *used, size_t used_len,
+    const uint8_t *retired, size_t retired_len);
+
+#ifdef __cplusplus
+}
+#endif
+
+#endif
