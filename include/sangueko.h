@@ -1,6 +1,6 @@
 /*
  * Sangueko: a store of files in buffers that the caller lends. The archive is libvolume.a, which `rt staticlib volume` writes to target/staticlib/, for
- * x86-64 and the C calling convention. It asks nothing of its surroundings but the C library's memcpy, memmove, memset and bcmp.
+ * x86-64 and the C calling convention. Of the C library it calls memcpy and memset, and nothing else.
  *
  * A store is seven buffers, and every call is lent all of them, in this order, each as a pointer and its length in bytes:
  *
@@ -19,14 +19,13 @@
  * call was refused, its count is 0 and no byte of any buffer has changed. A call tries its refusals in the order of their numbers and gives the first
  * that applies. It takes any bytes, lengths and numbers whatever: what it cannot work on it refuses.
  *
- * Pointers. A buffer that a call takes as `const` is only read. Each buffer must be readable (the others: writable) for its whole length during the call,
- * and a buffer that is not `const` must not overlap another of the same call. No alignment is asked for. The pointer of an empty buffer may be any
- * pointer that is not null.
+ * Pointers. A buffer that a call takes as `const` is only read. The others must not overlap any other buffer of the same call. No alignment is asked
+ * for. The pointer of an empty buffer may be any that is not null.
  *
  * Threads. The library keeps no state and allocates nothing. Calls may run at the same time in any threads on stores that do not overlap, and on one
  * store where all of them take its buffers as `const`.
  *
- * Stack. No call takes more than SANGUEKO_STACK_BYTES of stack.
+ * Stack. No call takes more than SANGUEKO_STACK_BYTES of stack, what the dynamic linker may take to find memset the first time left aside.
  */
 #ifndef SANGUEKO_H
 #define SANGUEKO_H

@@ -219,14 +219,19 @@ fn maps(store: &Store<'_>, head: &Head) -> bool {
 
 /// Whether the blocks from one to another are used and not retired.
 fn range_kept(store: &Store<'_>, from: u64, to: u64) -> bool {
+    let kept = |word: usize, mask: u64| {
+        let at = 8 * word..8 * word + 8;
+        let (used, retired) = (le(&store.used[at.clone()]), le(&store.retired[at]));
+        used & !retired & mask == mask
+    };
     if from == to {
         return true;
     }
+    // Most ranges lie in one word.
     let (first, last) = ((from / 64) as usize, ((to - 1) / 64) as usize);
-    (first..=last).all(|word| {
-        let mask = mask(word, from, to);
-        let at = 8 * word..8 * word + 8;
-        let (used, retired) = (le(&store.used[at.clone()]), le(&store.retired[at]));
-        used & mask == mask && retired & mask == 0
-    })
+    let (low, high) = (!0 << (from % 64), !0 >> (63 - (to - 1) % 64));
+    if first == last {
+        return kept(first, low & high);
+    }
+    kept(first, low) && (first + 1..last).all(|word| kept(word, !0)) && kept(last, high)
 }
