@@ -12,8 +12,8 @@
  *   used     SANGUEKO_MAP_BYTES of the number of blocks
  *   retired  the same
  *
- * The three books (cards, extents, groups) have 0 to SANGUEKO_MOST_PLACES places each. The caller chooses the lengths once, calls sangueko_fresh, and lends
- * buffers of the same lengths from then on; the buffers, kept as they are, are the store. sangueko_enter adds a file.
+ * The three books (cards, extents, groups) have 0 to SANGUEKO_MOST_PLACES places each. The caller chooses the lengths once, calls sangueko_fresh, and
+ * lends buffers of the same lengths from then on; the buffers, kept as they are, are the store. sangueko_enter adds a file.
  *
  * A call answers a number and a count. Number 0: it did its work, and the count is its answer. Any other number is one of enum sangueko_refusal: the
  * call was refused, its count is 0 and no byte of any buffer has changed. A call tries its refusals in the order of their numbers and gives the first
@@ -62,8 +62,8 @@ extern "C" {
  * not have yet.
  */
 enum sangueko_refusal {
-    /* A buffer's length is wrong, or the head does not fit the lengths: it counts other blocks than the image's, more records than there are places or
-     * more reserved blocks than blocks. For sangueko_fresh, which does not read the head: also the uuid's length, and more reserved blocks than blocks. */
+    /* A buffer's length is wrong, or the head does not fit the lengths: it counts other blocks than the image's, more records than there are places, or
+     * more reserved blocks than blocks. sangueko_fresh does not read the head; it tries the uuid's length and the reserved blocks that it is given. */
     SANGUEKO_WRONG_LENGTH = 1,
     /* A book or a map breaks a rule of the format: the store is damaged, or is none. */
     SANGUEKO_BROKEN_RULE = 2,

@@ -1,6 +1,6 @@
 /*
- * How much stack each call takes: it runs on a stack filled with one byte, and the lowest byte that changed is sought. The store has a file with a block
- * and a checksum, so that every test is made. Exits with 1 where a call takes more than the header says.
+ * How much stack each call takes: it runs on a stack filled with one byte, and the lowest byte that changed is sought. The store has a file with a
+ * block and a checksum, so that every test is made. Exits with 1 where a call takes more than the header says.
  */
 #define _XOPEN_SOURCE 700
 #define _DEFAULT_SOURCE

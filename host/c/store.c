@@ -1,6 +1,7 @@
 /*
- * The library from C: a store of 8 blocks with 1 reserved, a file, and each refusal that the calls give. A buffer that a call takes as `const`, and every
- * buffer of a call that is to be refused, stands in pages that cannot be written meanwhile. Exits with 1 at any difference.
+ * The library from C: a store of 8 blocks with 1 reserved, a file, and each refusal that the calls give. A buffer that a call takes as `const`, and
+ * every buffer of a call that is to be refused, stands in pages that cannot be written meanwhile: a write there ends the program. Exits with 1 at any
+ * difference.
  */
 #define _DEFAULT_SOURCE
 
