@@ -8,20 +8,26 @@ use mathlib.Core.Option.{Option, none, some}
 use Prim.Native.Nat.{ℕ, _*_}
 use lib.Dec.{eqb}
 use lib.ListN.{length, replicate}
-use Rattle.rules.specs.Lists.{member}
+use Rattle.rules.specs.Lists.{if_then_else_, member}
 use Rattle.rules.specs.Sizes.{mostRuns}
 use Rattle.rules.specs.Extent.{Extent}
 use Rattle.rules.specs.Group.{emptyGroup, setChecksumSlot}
-use Rattle.rules.specs.Store.{Volume}
+use Rattle.rules.specs.Time.{Time}
+use Rattle.rules.specs.Store.{Store, Volume}
+use Rattle.rules.specs.Refusal.{Outcome, Result, firstOf, result}
+use Rattle.rules.specs.Arguments.{pastLimit, belowSize, timeWrong}
 use Rattle.rules.specs.Integrity.{mappedBlocks}
-use Rattle.rules.specs.Units.{Change, writeChange, writeUnits}
+use Rattle.rules.specs.Units.{Change, writeChange, growChange, writeUnits, growUnits}
 use Rattle.rules.specs.Kept.{runs, retainedBlocks}
 use Rattle.rules.specs.Inspect.{Inspected, inspectUnit}
 use Rattle.rules.specs.Inspect.Inspected.{checked}
 use Rattle.rules.specs.Rewrite.{Plan, Progress, rewriteUnits, afterRead, andThen}
 use Rattle.rules.specs.Finish.{newBlocks, supersededBlocks, finishedExtents}
 use Rattle.rules.specs.Answers.{planUnits, planNumber, planAllocated}
-use Rattle.worked.proofs.Stores.{extent, card, computed}
+use Rattle.rules.specs.Write.{writeOutcome, growFile, planOf, carriedOut}
+use Rattle.rules.specs.Call.{call}
+use Rattle.rules.specs.Call.Call.{write}
+use Rattle.worked.proofs.Stores.{time, extent, card, computed}
 
 -- so many bytes from this place on, written into file 7 of five full blocks
 pub into : ℕ → ℕ → Change
@@ -144,3 +150,17 @@ pub three-runs : (uuid image old : List ℕ) (crc : ℕ) → inspectUnit (fiveBl
     ≡ (0, (some 1 ∷ some 2 ∷ none ∷ some 4 ∷ some 5 ∷ []) ∷ [], 6 ∷ [], 3 ∷ [], extent 0 1 2 ∷ extent 2 6 1 ∷ extent 3 4 2 ∷ [], some 5)
 unfolding computed into told planned fromRead fiveBlocks start straight
 three-runs uuid image old crc h = ap (λ i. told straight (fromRead (fiveBlocks uuid image crc straight) (into 8192 1) i)) h
+
+-- ---- the limit that the calls give is four
+
+pub write-limit : (object offset : ℕ) (xs : List ℕ) (t : Time) (s : Store)
+    → call (write object offset xs t) s ≡ result s [] (writeOutcome 4 object offset xs t s)
+unfolding call
+write-limit object offset xs t s = refl
+
+-- a grow by one byte
+pub grow-limit : (s : Store)
+    → growFile 20480 (time 8 9) s (card 20479 5 12 13)
+    ≡ carriedOut 0 (growChange 7 20479 20480) (time 8 9) s (planOf 4 growUnits (growChange 7 20479 20480) (card 20479 5 12 13) s)
+unfolding growFile if_then_else_ firstOf pastLimit belowSize timeWrong card
+grow-limit s = refl
