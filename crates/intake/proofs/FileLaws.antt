@@ -4,25 +4,27 @@ use mathlib.Core.Path.{_≡_, refl, sym, ap, _∙_}
 use mathlib.Core.Bool.{Bool, true, false, not, _&&_}
 use mathlib.Core.List.{List, []}
 use Prim.Native.Nat.{ℕ, zero, suc, _+_, _-_, _*_, _/_, _≤_, _<_}
-use native.Mathlib.Nat.{add-zero, add-suc}
+use native.Mathlib.Decide.{decLt}
+use native.Mathlib.Nat.{zero-add, add-zero, add-suc}
 use native.Mathlib.Omega.{arith}
-use borrow.Author.Tests.{eqb-true, eq-eqb, ne-eqb, ltb-true, ltb-false, lt-ltb, le-ltb}
-use lib.Dec.{ltb, leb}
+use borrow.Author.Tests.{eqb-true, eq-eqb, ne-eqb, not-false, ltb-true, ltb-false, lt-ltb, le-ltb}
+use lib.Dec.{eqb, ltb, leb}
 use lib.ListN.{length}
-use Rattle.rules.specs.Lists.{range, all, any, ascending}
+use Rattle.rules.specs.Lists.{range, all, any, ascending, begun}
+use Rattle.rules.specs.Sizes.{blockBytes}
 use Rattle.rules.specs.Bytes.{part}
 use Rattle.rules.specs.Card.{Card, cardBytes, decodeCard, cardBefore}
 use Rattle.rules.specs.Extent.{Extent, extentBytes, decodeExtent, extentBefore, extentEnd}
 use Rattle.rules.specs.Book.{decodeBook}
 use Rattle.rules.specs.Integrity.{inFile}
-use Rattle.rules.proofs.ListLaws.{test-cases, order-cases, and-left, and-right, and-intro, any-at, any-index, ascending-at, pairBefore-cases}
+use Rattle.rules.proofs.ListLaws.{test-cases, order-cases, and-left, and-right, and-intro, any-at, any-index, ascending-at, all-range-at, all-range-of, pairBefore-cases}
 use Rattle.rules.proofs.ScanLaws.{same-test, scan-none, scan-more, scan-not, scan-done}
 use Rattle.rules.proofs.BookLaws.{length-decodeBook}
 use Rattle.format.specs.declared.extent.Extent.{Extent as ExtentStruct}
 use Rattle.format.specs.Records.{extentOf}
 use Rattle.book.specs.Places.{recordAt}
 use Rattle.book.proofs.SearchLaws.{record-at}
-use Rattle.intake.specs.BookTests.{inFileOf, inFileAt, filesRight, CardFrom}
+use Rattle.intake.specs.BookTests.{inFileOf, inFileAt, filesRight, CardFrom, SameFile}
 use Rattle.intake.proofs.WalkLaws.{all-places}
 
 -- ---- numbers that ascend with a book
@@ -162,12 +164,91 @@ module _ (n : ℕ) (cards : List ℕ) (m : ℕ) (extents : List ℕ) (i j r : �
         scan-not (λ a. inFile (decodeBook decodeCard cardBytes n cards) (recordAt decodeExtent extentBytes extents a)) m i t l tested v
         ∙ all-places decodeExtent extentBytes extents (inFile (decodeBook decodeCard cardBytes n cards)) m
 
+    module _ (v : not t ≡ false) where
+      -- the card at the place, by its test
+      at-card : (ltb r n ≡ true) × (recordAt decodeCard cardBytes cards r .object ≡ x .object)
+      unfolding inFileAt inFileOf extentOf
+      at-card =
+          let c : Card = recordAt decodeCard cardBytes cards r in
+          let b : Bool = eqb (c .object) (x .object) in
+          let k : (ltb r n && inFileOf (extentOf x) c) ≡ true = sym u ∙ not-false t v in
+          let w : inFileOf (extentOf x) c ≡ true = and-right (ltb r n) (inFileOf (extentOf x) c) k in
+          (and-left (ltb r n) (inFileOf (extentOf x) c) k, eqb-true (c .object) (x .object) (and-left b (leb (extentEnd (extentOf x)) (begun (c .size) blockBytes)) w))
+
+      -- an extent of the same file that ends within its blocks lies in it too
+      same-in : (limit : ℕ) → limit ≡ begun (recordAt decodeCard cardBytes cards r .size) blockBytes → (e : Extent) → e .object ≡ x .object → leb (extentEnd e) limit ≡ true
+          → inFile (decodeBook decodeCard cardBytes n cards) e ≡ true
+      unfolding inFileAt inFileOf
+      same-in limit b e o w =
+          let c : Card = recordAt decodeCard cardBytes cards r in
+          file-there n cards h e r (f .most) (λ k a. rw o (below k a)) (λ a. rw o (f .there a))
+          ∙ and-intro (ltb r n) (eqb (c .object) (e .object) && leb (extentEnd e) (begun (c .size) blockBytes)) (at-card .0)
+          (and-intro (eqb (c .object) (e .object)) (leb (extentEnd e) (begun (c .size) blockBytes)) (eq-eqb (c .object) (e .object) (at-card .1 ∙ sym o)) (rw (← b) w))
+
+      -- so all of them do
+      pub filed-through : (limit k : ℕ) → limit ≡ begun (recordAt decodeCard cardBytes cards r .size) blockBytes → SameFile (x .object) limit m (i + 1) extents k
+          → Filed n cards extents i → Filed n cards extents k
+      filed-through limit k b s g =
+          all-range-of (λ a. inFile (decodeBook decodeCard cardBytes n cards) (recordAt decodeExtent extentBytes extents a)) 0 k (λ a y. go a y (decLt a (i + 1)))
+        where
+          go : (a : ℕ) → a < k → Dec (a < i + 1) → inFile (decodeBook decodeCard cardBytes n cards) (recordAt decodeExtent extentBytes extents (0 + a)) ≡ true
+          go a y (yes z) = all-range-at (λ a. inFile (decodeBook decodeCard cardBytes n cards) (recordAt decodeExtent extentBytes extents a)) 0 (i + 1) (filed-more v g) a z
+          go a y (no z) =
+              let w = s .within a (omega arith) y in
+              rw (zero-add a) (same-in limit b (recordAt decodeExtent extentBytes extents a) (w .0) (w .1))
+
+  -- cards that are below every extent from a place on are below those further on
+  pub passed-on : ascending extentBefore (decodeBook decodeExtent extentBytes m extents) ≡ true → (k : ℕ) → i + 1 ≤ k → Passed cards m extents r k
+  passed-on h k b c d a z w = passed-more h c d a (omega arith) w
+
+-- a card that was tested and passed is one of the n
+pub card-there : (e : Extent) (n r : ℕ) (s : List ℕ) (t : Bool) → t ≡ inFileAt e n s r → not t ≡ false → r < n
+unfolding inFileAt
+card-there e n r s t u v = ltb-true r n (and-left (ltb r n) (inFileOf e (recordAt decodeCard cardBytes s r)) (sym u ∙ not-false t v))
+
 -- all do
 pub filed-done : (n : ℕ) (cards : List ℕ) (m : ℕ) (extents : List ℕ) (i : ℕ) → m ≤ i → Filed n cards extents i → true ≡ filesRight n cards m extents
 unfolding filesRight
 filed-done n cards m extents i l g =
     scan-done (λ a. inFile (decodeBook decodeCard cardBytes n cards) (recordAt decodeExtent extentBytes extents a)) m i l g
     ∙ all-places decodeExtent extentBytes extents (inFile (decodeBook decodeCard cardBytes n cards)) m
+
+-- ---- the extents of one file
+
+-- the extents from place a to i are of an object and end by a limit
+abbrev pub Within : (object limit a : ℕ) (s : List ℕ) (i : ℕ) → Type 0
+Within object limit a s i = (k : ℕ) → a ≤ k → k < i
+    → (recordAt decodeExtent extentBytes s k .object ≡ object) × (leb (extentEnd (recordAt decodeExtent extentBytes s k)) limit ≡ true)
+
+-- none yet
+pub within-none : (object limit a : ℕ) (s : List ℕ) → Within object limit a s a
+within-none object limit a s k l h = absurd (omega arith)
+
+-- one more
+pub within-more : (object limit a : ℕ) (s : List ℕ) (i : ℕ) (x : ExtentStruct) (t : Bool) → Within object limit a s i → extentOf x ≡ decodeExtent (part (extentBytes * i) extentBytes s)
+    → x .object ≡ object → t ≡ leb (extentEnd (extentOf x)) limit → not t ≡ false → Within object limit a s (i + 1)
+within-more object limit a s i x t u q o e v k l h = test-cases _ (ltb k i)
+    (λ y. u k l (ltb-true k i y))
+    (λ y.
+    let z : k ≡ i = omega (arith, ltb-false k i y) in
+    let w : extentOf x ≡ recordAt decodeExtent extentBytes s i = unfold recordAt in q in
+    rw z (sym (object-is x w) ∙ o, ap (λ (f : Extent). leb (extentEnd f) limit) (sym w) ∙ sym e ∙ not-false t v))
+  where
+    object-is : {f : Extent} (y : ExtentStruct) → extentOf y ≡ f → y .object ≡ f .object
+    object-is y p = unfold extentOf in ap (λ (f : Extent). f .object) p
+
+-- it ends here
+pub same-here : (object limit m a : ℕ) (s : List ℕ) (i : ℕ) → Within object limit a s i → a ≤ i → i ≤ m → SameFile object limit m a s i
+same-here object limit m a s i u l h = record { least = l; most = h; within = u }
+
+-- or with the book
+pub same-end : (object limit m a : ℕ) (s : List ℕ) (i : ℕ) → Within object limit a s i → a ≤ m → m ≤ i → i ≤ m → SameFile object limit m a s m
+same-end object limit m a s i u l h g = record { least = l; most = omega arith; within = λ k b c. u k b (omega arith) }
+
+-- the blocks of a card's size
+pub blocks-of : (s : List ℕ) (i z r : ℕ) → z ≡ decodeCard (part (cardBytes * i) cardBytes s) .size → r ≡ (z + 4095) / 4096 → r ≡ begun (recordAt decodeCard cardBytes s i .size) blockBytes
+unfolding recordAt
+blocks-of s i z r e q = q ∙ ap (λ (n : ℕ). begun n blockBytes) e
 
 -- ---- the search for a card
 

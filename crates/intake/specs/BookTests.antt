@@ -1,5 +1,6 @@
 -- Refusal 2 on the books, a book at a time, in the words of rules; and as tests of one record after the other, over any width.
 -- Assumes nothing.
+use mathlib.Core.Path.{_≡_}
 use mathlib.Core.List.{List}
 use mathlib.Core.Bool.{Bool, true, _&&_}
 use Prim.Native.Nat.{ℕ, _+_, _-_, _*_, _≤_, _<_}
@@ -104,3 +105,10 @@ pub record CardFrom (object n a : ℕ) (s : List ℕ) (r : ℕ) : Type 0 where
   pub most : r ≤ n
   pub below : (k : ℕ) → a ≤ k → k < r → recordAt decodeCard cardBytes s k .object < object
   pub there : r < n → object ≤ recordAt decodeCard cardBytes s r .object
+
+-- from the place a up to r, m at most, extents are of this object and end at the block limit or before
+pub record SameFile (object limit m a : ℕ) (s : List ℕ) (r : ℕ) : Type 0 where
+  pub least : a ≤ r
+  pub most : r ≤ m
+  pub within : (k : ℕ) → a ≤ k → k < r
+      → (recordAt decodeExtent extentBytes s k .object ≡ object) × (leb (extentEnd (recordAt decodeExtent extentBytes s k)) limit ≡ true)

@@ -6,7 +6,8 @@ ghost use mathlib.Core.Bool.{true, not};
 ghost use Prim.Native.Nat.{_+_, _-_, _*_, _≤_, _<_};
 ghost use lib.ListN.{length};
 ghost use Rattle.rules.specs.Bytes.{part};
-ghost use Rattle.rules.specs.Lists.{ascending};
+ghost use Rattle.rules.specs.Lists.{ascending, begun};
+ghost use Rattle.rules.specs.Sizes.{blockBytes};
 ghost use Rattle.rules.specs.Card.{cardBytes, decodeCard, cardBefore};
 ghost use Rattle.rules.specs.Extent.{extentBytes, decodeExtent, extentBefore};
 ghost use Rattle.rules.specs.Group.{groupBytes, decodeGroup, groupBefore};
@@ -14,7 +15,7 @@ ghost use Rattle.rules.specs.Book.{decodeBook};
 ghost use Rattle.rules.specs.Integrity.{booksKeepRules};
 ghost use Rattle.format.specs.Records.{extentOf};
 ghost use Rattle.book.specs.Places.{recordAt, follows};
-ghost use Rattle.intake.specs.BookTests.{lentAs, cardRight, extentRight, groupRight, recordKept, cardsKept, extentsKept, groupsKept, cardsRight, extentsRight, groupsRight, filesRight, inFileAt, CardFrom};
+ghost use Rattle.intake.specs.BookTests.{lentAs, cardRight, extentRight, groupRight, recordKept, cardsKept, extentsKept, groupsKept, cardsRight, extentsRight, groupsRight, filesRight, inFileAt, CardFrom, SameFile};
 use format::card::CARD_BYTES;
 use format::extent::EXTENT_BYTES;
 use format::extent::Extent;
@@ -221,8 +222,37 @@ fn in_file(s: &[u8], n: usize, i: usize, e: Extent) -> bool
     e.ends_by((size + LAST_BYTE) / BLOCK_BYTES as u64)
 }
 
+// The blocks of the size on the card at place `i`.
+fn file_blocks(s: &[u8], i: usize) -> u64
+    requires { ⌜ cardBytes * i + cardBytes ≤ length (now s) ⌝ }
+    ensures { λ r. ⌜ r ≡ begun (recordAt decodeCard cardBytes (now (s .entry)) i .size) blockBytes ⌝ }
+{
+    let size = format::card::card_size(s, CARD_BYTES * i);
+    (size + LAST_BYTE) / BLOCK_BYTES as u64
+}
+
+// From place `a` on the first of `m` extents that is not one of `object` or ends past block `limit` of its file, or `m`.
+fn same_file(s: &[u8], m: usize, a: usize, object: u64, limit: u64) -> usize
+    requires { ⌜ (a ≤ m) × (extentBytes * m ≤ length (now s)) ⌝ }
+    ensures { λ r. ⌜ SameFile object limit m a (now (s .entry)) r ⌝ }
+{
+    let mut i = a;
+    while i < m {
+        let e = format::extent::decode_extent(s, EXTENT_BYTES * i);
+        if e.object != object {
+            return i;
+        }
+        if !e.ends_by(limit) {
+            return i;
+        }
+        i += 1;
+    }
+    m
+}
+
 // Whether each of `m` extents lies within the blocks of its file's size, and its file is one of `n` cards. Both books ascend, so they are walked side
-// by side: the card of an extent stands at or behind that of the extent before it.
+// by side: the card of an extent stands at or behind that of the extent before it. The card is read for the first extent of its file; the others are
+// held to its blocks.
 pub fn files_right(cards: &[u8], n: usize, extents: &[u8], m: usize) -> bool
     requires { ⌜ (cardBytes * n ≤ length (now cards)) × (extentBytes * m ≤ length (now extents)) ⌝ }
     requires { ⌜ ascending cardBefore (decodeBook decodeCard cardBytes n (now cards)) ≡ true ⌝ }
@@ -237,7 +267,8 @@ pub fn files_right(cards: &[u8], n: usize, extents: &[u8], m: usize) -> bool
         if !in_file(cards, n, j, e) {
             return false;
         }
-        i += 1;
+        let limit = file_blocks(cards, j);
+        i = same_file(extents, m, i + 1, e.object, limit);
     }
     true
 }

@@ -1,13 +1,14 @@
 -- `intake::books::files_right` meets its contract.
 -- Assumes nothing.
-use borrow.Author.Needs.{needs}
+use Rattle.intake.proofs.FileLaws.{Passed, Filed, passed-none, passed-on, filed-none, card-there, filed-through, filed-not, filed-done}
+use native.Mathlib.Omega.{arith}
 use Prim.Native.Nat.{_-_, _≤_}
-use Rattle.intake.proofs.FileLaws.{Passed, Filed, passed-none, passed-more, filed-none, filed-more, filed-not, filed-done}
+use borrow.Author.Needs.{needs}
 use Rattle.intake.proofs.books.files_right.Statement.{statement}
 use Rattle.intake.proofs.books.files_right.Tie as tie
 
 abbrev Inv-loop : tie.InvT-loop
-Inv-loop cards n extents m j₀ i₀ j i = (j ≤ n) × Passed cards m extents j i × Filed n cards extents i
+Inv-loop cards n extents m j₀ i₀ j i = (j ≤ n) × (i ≤ m) × Passed cards m extents j i × Filed n cards extents i
 
 abbrev μ-loop : tie.MeasureT-loop
 μ-loop cards n extents m j₀ i₀ j i = m - i
@@ -30,14 +31,20 @@ in-file-requires c κs = search needs
 returns : tie.Need-returns Inv-loop μ-loop
 returns c = search (filed-not, needs)
 
-add-i : tie.Need-add-i Inv-loop μ-loop
-add-i c = search needs
+file-blocks-requires : tie.Need-file-blocks-requires Inv-loop μ-loop
+file-blocks-requires c κs = omega (arith, card-there _ _ _ _ _ (c .before .in-file .ensures) (c .if1 .left))
+
+add-same-file : tie.Need-add-same-file Inv-loop μ-loop
+add-same-file c = search needs
+
+same-file-requires : tie.Need-same-file-requires Inv-loop μ-loop
+same-file-requires c κs = search needs
 
 loop-less : tie.Need-loop-less Inv-loop μ-loop
 loop-less c = search needs
 
 loop-again : tie.Need-loop-again Inv-loop μ-loop
-loop-again c = search (passed-more, filed-more, needs)
+loop-again c = search (passed-on, filed-through, needs)
 
 returns-2 : tie.Need-returns-2 Inv-loop μ-loop
 returns-2 c = search (filed-done, needs)
@@ -54,7 +61,9 @@ files-right-spec =
     card-from-requires
     in-file-requires
     returns
-    add-i
+    file-blocks-requires
+    add-same-file
+    same-file-requires
     loop-less
     loop-again
     returns-2)
