@@ -8,6 +8,7 @@ use Rattle.rules.specs.Head.{encodeHead}
 use Rattle.rules.specs.Time.{Time}
 use Rattle.rules.specs.Card.{Card}
 use Rattle.rules.specs.Store.{Store, decode}
+use Rattle.rules.specs.Call.{call}
 use Rattle.rules.specs.Call.Call.{enter, write, grow, settle, look}
 use Rattle.rules.specs.Call.Look.{read, fill}
 use Rattle.rules.specs.Demand.{run}
@@ -67,7 +68,7 @@ pub record Order : Type 0 where
   pub fits : answer (write 8 0 (1 ∷ []) (time 8 9)) (second (small 2 2)) ≡ (0, 1)
   -- "An untouched hole stays a hole."; one that is touched does not
   pub hole : extents (run (grow 8 9 (time 3 3) ∷ []) holed) ≡ extent 0 3 1 ∷ []
-  pub touched : answer (look (read 8 0 (replicate 6 77))) (run (write 8 2 (1 ∷ []) (time 3 3) ∷ []) holed) ≡ (0, 5)
+  pub touched : call (look (read 8 0 (replicate 6 77))) (run (write 8 2 (1 ∷ []) (time 3 3) ∷ []) holed) .out ≡ 0 ∷ 0 ∷ 1 ∷ 0 ∷ 0 ∷ 77 ∷ []
   -- a change that takes no block leaves the hint; one that does sets it
   pub hint-stays : decode (run (grow 8 5 (time 2 2) ∷ []) (second hinted)) .hint ≡ 1
   pub hint-set : decode (run (write 7 0 (1 ∷ []) (time 8 9) ∷ []) hinted) .hint ≡ 0
