@@ -92,8 +92,8 @@ fn crc32c(bytes: &[u8]) -> u32 {
 #[test]
 fn crc32c_around_its_lengths() {
     assert_eq!(probe::crc32c(b"123456789"), 0xe306_9283);
-    let mut random = Random(528);
-    let bytes: Vec<u8> = (0..70_001).map(|_| random.next() as u8).collect();
+    let mut random = Rng::new(528);
+    let bytes: Vec<u8> = (0..70_001).map(|_| random.next_u64() as u8).collect();
     // Where the tables give way to the window, where the window is full, and about whole rooms of it.
     let edges = [0, 16, 528, 1024, 1280, 4096, 4624, 8192, 65_536, 70_000];
     for len in edges
@@ -112,10 +112,10 @@ fn crc32c_around_its_lengths() {
 
 #[test]
 fn unit_checksum_in_pieces() {
-    let mut random = Random(4624);
+    let mut random = Rng::new(4624);
     let uuid = [3u8; 16];
     for len in [0, 1, 1023, 1024, 1025, 4096, 9_000, 65_536] {
-        let bytes: Vec<u8> = (0..len).map(|_| random.next() as u8).collect();
+        let bytes: Vec<u8> = (0..len).map(|_| random.next_u64() as u8).collect();
         let mut message = uuid.to_vec();
         message.extend(5u64.to_be_bytes());
         message.extend(2u64.to_be_bytes());
