@@ -49,7 +49,7 @@ InRange (grow object size time) = Word object × Word size × WordTime time
 InRange settle = Unit {0}
 InRange (look l) = LookInRange l
 
--- what a call gives: a write's blocks form at most four runs a unit; a read alone lends a buffer besides the store
+-- what a call gives: what a write keeps of a unit is held to `mostRuns`; a read alone lends a buffer besides the store
 unfoldable pub call : Call → Store → Result
 call (fresh uuid reserved) s = result s [] (freshOutcome uuid reserved s)
 call (enter object time) s = result s [] (enterOutcome object time s)

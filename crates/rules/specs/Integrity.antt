@@ -37,7 +37,7 @@ fixedRight l =
     && all extentFixed (pieces extentBytes (l .extentCount) (l .extents))
     && all groupFixed (pieces groupBytes (l .groupCount) (l .groups))
 
--- a card's time is one
+-- a card's nanoseconds are fewer than a second has
 unfoldable pub cardTimesRight : Card → Bool
 cardTimesRight c = ltb (c .changed .nanoseconds) nanosecondsBound
 

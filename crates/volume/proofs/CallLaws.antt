@@ -39,6 +39,7 @@ use Rattle.rules.proofs.BookLaws.{length-decodeBook}
 use Rattle.rules.proofs.EnterLaws.{TimeRight, time-right}
 use Rattle.rules.proofs.StoreAfter.{fresh-left, enter-left, settle-left}
 use Rattle.intake.specs.Join.{storeNumber}
+use Rattle.intake.proofs.JoinLaws.{number-passes}
 use Rattle.volume.specs.Buffers.{freshHead, oneCardMore, enterNumber, CardsRight, EnterReady}
 use Rattle.volume.specs.Call.{gave}
 
@@ -58,13 +59,7 @@ stopped s next n e z =
 
 -- where neither comes the store passes
 pub not-stopped : (s : Store) (n : ℕ) → n ≡ storeNumber s → n ≡ 0 → Passes s
-unfolding storeNumber storeCases firstOf outcomeNumber numberOf
-not-stopped s n e z =
-    test-cases _ (lengthWrong s)
-    (λ t. let m : n ≡ 1 = e ∙ ap outcomeNumber (if-true (lengthWrong s) (refuse wrong-length) _ t) in absurd (omega (arith, m, z)))
-    (λ t. test-cases _ (ruleBroken s)
-    (λ u. let m : n ≡ 2 = e ∙ ap outcomeNumber (if-false (lengthWrong s) (refuse wrong-length) _ t ∙ if-true (ruleBroken s) (refuse broken-rule) _ u) in absurd (omega (arith, m, z)))
-    (λ u. record { lengths = t; rules = u }))
+not-stopped s n e z = number-passes s (sym e ∙ z)
 
 module _ (s : Store) (n : ℕ) (e : n ≡ storeNumber s) (z : n ≡ 0 → ⊥) where
   -- so fill
