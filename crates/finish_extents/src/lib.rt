@@ -1,0 +1,1 @@
+// The extents that a change leaves.

@@ -1,0 +1,1 @@
+// Bytes copied out of the blocks of the image, and into them.

@@ -1,0 +1,1 @@
+// `inspect_unit`: a unit that is read, checked against its checksum.
