@@ -1,1 +1,3 @@
 pub mod Mapped
+pub mod Answer
+pub mod Runs

@@ -41,14 +41,14 @@ use Rattle.rules.proofs.StoreAfter.{fresh-left, enter-left, settle-left}
 use Rattle.intake.specs.Join.{storeNumber}
 use Rattle.intake.proofs.JoinLaws.{number-passes}
 use Rattle.volume.specs.Buffers.{freshHead, oneCardMore, enterNumber, CardsRight, EnterReady}
-use Rattle.volume.specs.Call.{gave}
+use Rattle.volume.specs.Call.{handed, gave}
 
 -- ---- refusals 1 and 2
 
--- a call that refusal 1 or 2 stops gives its number, whatever it would go on with, and leaves the store
-pub stopped : (s : Store) (next : Outcome) (n : ℕ) → n ≡ storeNumber s → (n ≡ 0 → ⊥) → gave n 0 s ≡ result s [] (firstOf (storeCases s) next)
+-- a call that refusal 1 or 2 stops gives its number, whatever it would go on with, and leaves the store and the output buffer
+pub stopped : (s : Store) (out : List ℕ) (next : Outcome) (n : ℕ) → n ≡ storeNumber s → (n ≡ 0 → ⊥) → handed n 0 s out ≡ result s out (firstOf (storeCases s) next)
 unfolding storeNumber storeCases firstOf outcomeNumber result numberOf
-stopped s next n e z =
+stopped s out next n e z =
     test-cases _ (lengthWrong s)
     (λ t. let m : n ≡ 1 = e ∙ ap outcomeNumber (if-true (lengthWrong s) (refuse wrong-length) _ t) in
     rw (m, if-true (lengthWrong s) (refuse wrong-length) (if ruleBroken s then refuse broken-rule else next) t) refl)
@@ -65,12 +65,12 @@ module _ (s : Store) (n : ℕ) (e : n ≡ storeNumber s) (z : n ≡ 0 → ⊥) w
   -- so fill
   pub fill-stopped : gave n 0 s ≡ call (look fill) s
   unfolding call fillOutcome
-  fill-stopped = stopped s _ n e z
+  fill-stopped = stopped s [] _ n e z
 
   -- and settle
   pub settle-stopped : gave n 0 s ≡ call settle s
   unfolding call settleOutcome
-  settle-stopped = stopped s _ n e z
+  settle-stopped = stopped s [] _ n e z
 
 -- ---- fill and settle
 
@@ -177,7 +177,7 @@ module _ (object : ℕ) (time : Time) (s : Store) where
   -- refusals 1 and 2
   pub enter-stopped : (n : ℕ) → n ≡ storeNumber s → (n ≡ 0 → ⊥) → gave n 0 s ≡ call (enter object time) s
   unfolding call enterOutcome
-  enter-stopped n e z = stopped s _ n e z
+  enter-stopped n e z = stopped s [] _ n e z
 
   module _ (p : Passes s) where
     -- its cards are those that the head counts

@@ -1,3 +1,4 @@
 pub mod MapLaws
 pub mod EnterLaws
 pub mod CallLaws
+pub mod ReadLaws

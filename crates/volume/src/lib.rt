@@ -12,9 +12,9 @@ pub mod settle;
 ghost use mathlib.Core.Path.{_≡_};
 ghost use Rattle.rules.specs.Store.{lent};
 ghost use Rattle.rules.specs.Call.{call};
-ghost use Rattle.rules.specs.Call.Look.{fill};
+ghost use Rattle.rules.specs.Call.Look.{read, fill};
 ghost use Rattle.rules.specs.Call.Call.{fresh, enter, settle, look};
-ghost use Rattle.volume.specs.Call.{gave};
+ghost use Rattle.volume.specs.Call.{handed, gave};
 use format::sizes::BLOCK_BYTES;
 
 // A call's answer: 0 and a count, or the number of its refusal and 0.
@@ -22,6 +22,34 @@ use format::sizes::BLOCK_BYTES;
 pub struct Answer {
     pub number: u32,
     pub count: u64,
+}
+
+// Bytes of a file from `offset` on, at the head of `out`: all up to its end, as far as `out` has room and a read gets them. The count is their
+// number; the rest of `out` stays, and so does the store.
+#[no_mangle]
+pub extern "C" fn sangueko_read(
+    image: &[u8],
+    head: &[u8],
+    cards: &[u8],
+    extents: &[u8],
+    groups: &[u8],
+    used: &[u8],
+    retired: &[u8],
+    object: u64,
+    offset: u64,
+    out: &mut [u8],
+) -> Answer
+    ensures { λ r. ⌜ handed (r .number) (r .count) (lent (now (image .entry)) (now (head .entry)) (now (cards .entry)) (now (extents .entry)) (now (groups .entry)) (now (used .entry)) (now (retired .entry))) (now (out .exit)) ≡ call (look (read object offset (now (out .entry)))) (lent (now (image .entry)) (now (head .entry)) (now (cards .entry)) (now (extents .entry)) (now (groups .entry)) (now (used .entry)) (now (retired .entry))) ⌝ }
+{
+    let number = intake::refused(image, head, cards, extents, groups, used, retired);
+    if number != 0 {
+        return Answer { number, count: 0 };
+    }
+    let given = read::read_file(image, head, cards, extents, groups, object, offset, out);
+    Answer {
+        number: given.number,
+        count: given.count as u64,
+    }
 }
 
 // The used blocks of all, per mille. Nothing changes.

@@ -1,1 +1,0 @@
-// The extents that a change leaves.

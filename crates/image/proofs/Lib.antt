@@ -1,0 +1,4 @@
+pub mod BlockLaws
+pub mod OutLaws
+pub mod UnitLaws
+pub mod PutLaws

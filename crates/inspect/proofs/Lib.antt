@@ -1,0 +1,4 @@
+pub mod BlockLaws
+pub mod AnswerLaws
+pub mod InspectLaws
+pub mod FoundLaws

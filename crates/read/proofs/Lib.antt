@@ -1,0 +1,3 @@
+pub mod HandedLaws
+pub mod RangeLaws
+pub mod GivesLaws
