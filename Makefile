@@ -1,5 +1,5 @@
 # The two commands of README.md, and what they are made of. The Rattle kit (rt), cargo, cc and python3 are all that is needed.
-.PHONY: demo test bench clean
+.PHONY: demo test compare bench clean
 
 # The main job: prove what is claimed, and run the programs on it.
 demo:
@@ -9,12 +9,18 @@ demo:
 test:
 	.ci/run
 
-# The proved functions against plain Rust, as ratios, in one run.
+# A million random calls through the library, document 01's model and the published Rust, with progress.
+compare:
+	rt staticlib volume
+	cargo run --release --offline --quiet --manifest-path host/sangueko/Cargo.toml --example compare -- --calls 1000000
+
+# The proved functions against plain Rust and the calls against the published Rust, as ratios.
 bench:
 	rt staticlib probe
 	cargo run --release --offline --quiet --manifest-path host/probe/Cargo.toml --bin bench
 	rt staticlib volume
 	cargo bench --offline --quiet --manifest-path host/sangueko/Cargo.toml --bench refusals
+	cargo run --release --offline --quiet --manifest-path host/bench/Cargo.toml
 
 clean:
-	rm -rf target host/target host/probe/target host/sangueko/target
+	rm -rf target host/target host/probe/target host/sangueko/target host/bench/target

@@ -54,12 +54,15 @@ extern "C" {
 #define SANGUEKO_MOST_BLOCKS 65536
 #define SANGUEKO_MOST_PLACES 1048575
 
+/* Bytes that one read takes at most. */
+#define SANGUEKO_MOST_TRANSFER 1048576
+
 /* Stack that a call takes at most. */
-#define SANGUEKO_STACK_BYTES 4096
+#define SANGUEKO_STACK_BYTES 65536
 
 /*
- * Why a call was refused. The calls below give 1, 2, 4, 7 and 8; the other numbers are those of writing, growing and reading, which this archive does
- * not have yet.
+ * Why a call was refused. The calls below give 1 to 4 and 7 to 12; the other numbers are those of writing and growing, which this archive does not
+ * have yet.
  */
 enum sangueko_refusal {
     /* A buffer's length is wrong, or the head does not fit the lengths: it counts other blocks than the image's, more records than there are places, or
@@ -158,6 +161,23 @@ struct sangueko_answer sangueko_fill(
     const uint8_t *groups, size_t groups_len,
     const uint8_t *used, size_t used_len,
     const uint8_t *retired, size_t retired_len);
+
+/*
+ * Reads the file's bytes from `offset` on to the head of `out`: as many as it has room for, as there are before the file's end, and at most
+ * SANGUEKO_MOST_TRANSFER. The rest of `out` stays as it is. What was never written reads as zeros. Every unit of 64 KiB that a byte of the answer lies
+ * in is checked whole against its checksum before the first byte is handed out.
+ * Count: the bytes read; 0 at or past the end, or where `out` is empty. Refused, in this order, by 1, 2, 3 (no such file), and unit by unit by 9 to 12.
+ */
+struct sangueko_answer sangueko_read(
+    const uint8_t *image, size_t image_len,
+    const uint8_t *head, size_t head_len,
+    const uint8_t *cards, size_t cards_len,
+    const uint8_t *extents, size_t extents_len,
+    const uint8_t *groups, size_t groups_len,
+    const uint8_t *used, size_t used_len,
+    const uint8_t *retired, size_t retired_len,
+    uint64_t object, uint64_t offset,
+    uint8_t *out, size_t out_len);
 
 #ifdef __cplusplus
 }

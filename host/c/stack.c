@@ -49,6 +49,36 @@ static struct sangueko_answer fill(void)
     return sangueko_fill(LENT);
 }
 
+static struct sangueko_answer read_file(void)
+{
+    static uint8_t out[SANGUEKO_BLOCK_BYTES];
+    return sangueko_read(LENT, 7, 0, out, sizeof out);
+}
+
+/* The checksum's register after one more byte. */
+static uint32_t feed(uint32_t crc, uint8_t byte)
+{
+    crc ^= byte;
+    for (int bit = 0; bit < 8; bit++)
+        crc = crc >> 1 ^ (crc & 1 ? 0x82f63b78 : 0);
+    return crc;
+}
+
+/* The checksum of unit 0 of file 7, which has `len` valid bytes. */
+static uint32_t unit_checksum(const uint8_t *bytes, uint32_t len)
+{
+    uint32_t crc = UINT32_MAX;
+    for (size_t i = 0; i < sizeof uuid; i++)
+        crc = feed(crc, uuid[i]);
+    for (int i = 0; i < 16; i++)
+        crc = feed(crc, i == 7 ? 7 : 0);
+    for (int i = 24; i >= 0; i -= 8)
+        crc = feed(crc, (uint8_t)(len >> i));
+    for (uint32_t i = 0; i < len; i++)
+        crc = feed(crc, bytes[i]);
+    return ~crc;
+}
+
 /* A store of file 7 with one block, its checksum, and a retired block. */
 static void prepare(void)
 {
@@ -60,7 +90,9 @@ static void prepare(void)
     extents[17] = extents[25] = 1; /* from block 1 on, one block */
     groups[8] = 4;
     groups[17] = 1; /* slot 0 */
-    groups[49] = 9;
+    uint32_t crc = unit_checksum(image + SANGUEKO_BLOCK_BYTES, SANGUEKO_BLOCK_BYTES);
+    for (int i = 0; i < 4; i++)
+        groups[49 + i] = (uint8_t)(crc >> 8 * i);
     head[25] |= 0x10; /* one extent */
     head[27] |= 1;    /* one group */
     used[0] = 7;
@@ -109,7 +141,8 @@ int main(void)
         const char *name;
         struct sangueko_answer (*call)(void);
         uint64_t count;
-    } calls[] = { { "fresh", fresh, 0 }, { "enter", enter, 0 }, { "settle", settle, 1 }, { "fill", fill, 375 } };
+    } calls[] = { { "fresh", fresh, 0 }, { "enter", enter, 0 }, { "settle", settle, 1 }, { "fill", fill, 375 },
+                  { "read", read_file, SANGUEKO_BLOCK_BYTES } };
     int failed = 0;
     printf("stack:");
     for (size_t i = 0; i < sizeof calls / sizeof calls[0]; i++) {

@@ -100,6 +100,15 @@ static struct sangueko_answer enter(struct store *s, uint64_t object, uint64_t s
     return sangueko_enter(LENT(s), object, seconds, nanoseconds);
 }
 
+/* The head of the output, 0x77 all over before the call. */
+static uint8_t out[16];
+
+static struct sangueko_answer read_at(struct store *s, uint64_t object, uint64_t offset, size_t len)
+{
+    memset(out, 0x77, sizeof out);
+    return sangueko_read(LENT(s), object, offset, out, len);
+}
+
 static void accepted(const char *what, struct sangueko_answer answer, uint64_t count)
 {
     if (answer.number != 0 || answer.count != count) {
@@ -154,6 +163,8 @@ static void refusals(struct store *s, uint8_t *kept[BUFFERS])
         refused("enter, a buffer one byte short", enter(s, 8, 0, 0), SANGUEKO_WRONG_LENGTH);
         refused("settle, a buffer one byte short", sangueko_settle(LENT(s)), SANGUEKO_WRONG_LENGTH);
         refused("fill, a buffer one byte short", sangueko_fill(LENT(s)), SANGUEKO_WRONG_LENGTH);
+        refused("read, a buffer one byte short", read_at(s, 7, 0, sizeof out), SANGUEKO_WRONG_LENGTH);
+        EXPECT("read, a buffer one byte short", all(out, sizeof out, 0x77));
         s->len[i]++;
     }
     refused("fresh, a short uuid", fresh(s, sizeof uuid - 1, 1), SANGUEKO_WRONG_LENGTH);
@@ -164,6 +175,9 @@ static void refusals(struct store *s, uint8_t *kept[BUFFERS])
     refused("enter, too many seconds", enter(s, 9, most + 1, 0), SANGUEKO_BAD_TIME);
     refused("enter, too many nanoseconds", enter(s, 9, most, 1000000000), SANGUEKO_BAD_TIME);
     refused("enter, no place", enter(s, 9, most, 999999999), SANGUEKO_NO_CARD_PLACE);
+
+    refused("read, no such file", read_at(s, 9, 0, sizeof out), SANGUEKO_NO_CARD);
+    EXPECT("read, no such file", all(out, sizeof out, 0x77));
 
     open_all(s);
     unchanged("refused calls", s, kept);
@@ -178,9 +192,43 @@ static void broken(struct store *s, uint8_t *kept[BUFFERS])
     refused("enter, a broken rule", enter(s, 7, 0, 0), SANGUEKO_BROKEN_RULE);
     refused("settle, a broken rule", sangueko_settle(LENT(s)), SANGUEKO_BROKEN_RULE);
     refused("fill, a broken rule", sangueko_fill(LENT(s)), SANGUEKO_BROKEN_RULE);
+    refused("read, a broken rule", read_at(s, 7, 0, sizeof out), SANGUEKO_BROKEN_RULE);
     open_all(s);
     unchanged("a broken rule", s, kept);
     s->at[RETIRED][0] &= 0x7f;
+}
+
+/* File 5, with 20 bytes that were never written: reads of them, and a block without a checksum. */
+static void reads(struct store *s, uint8_t *kept[BUFFERS])
+{
+    open_all(s);
+    s->at[CARD][15] = 40; /* 63 bits of size from byte 8 on */
+    keep(s, kept);
+    close_all(s);
+    accepted("read", read_at(s, 5, 8, sizeof out), 12);
+    EXPECT("read", all(out, 12, 0) && all(out + 12, 4, 0x77));
+    accepted("read, little room", read_at(s, 5, 8, 3), 3);
+    EXPECT("read, little room", all(out, 3, 0) && all(out + 3, 13, 0x77));
+    accepted("read, no room", read_at(s, 5, 8, 0), 0);
+    accepted("read at the end", read_at(s, 5, 20, sizeof out), 0);
+    accepted("read far past the end", read_at(s, 5, UINT64_MAX, sizeof out), 0);
+    EXPECT("read far past the end", all(out, sizeof out, 0x77));
+    open_all(s);
+    unchanged("reads", s, kept);
+
+    /* block 3 mapped, and no checksum for its unit */
+    static const uint8_t extent[SANGUEKO_EXTENT_BYTES] = { [7] = 5, [8] = 3, [17] = 3, [25] = 1 };
+    memcpy(s->at[EXTENT], extent, sizeof extent);
+    s->at[HEAD][25] = 0x10; /* 20 bits of the number of extents */
+    s->at[USED][0] |= 8;
+    close_all(s);
+    refused("read, no checksum", read_at(s, 5, 8, sizeof out), SANGUEKO_NO_CHECKSUM);
+    EXPECT("read, no checksum", all(out, sizeof out, 0x77));
+    open_all(s);
+    memset(s->at[EXTENT], 0, sizeof extent);
+    s->at[HEAD][25] = 0;
+    s->at[USED][0] &= 0xf7;
+    s->at[CARD][15] = 0;
 }
 
 /* The books may have no place: any pointer that is not null will do. */
@@ -253,6 +301,7 @@ int main(void)
     unchanged("settle again", &s, kept);
 
     refusals(&s, kept);
+    reads(&s, kept);
     broken(&s, kept);
     accepted("fill at the end", sangueko_fill(LENT(&s)), 125);
     no_places(&s);
@@ -261,6 +310,6 @@ int main(void)
         printf("store: %d differences\n", differences);
         return 1;
     }
-    printf("store: fresh, enter, settle and fill as asked; refusals 1, 2, 4, 7 and 8 change nothing\n");
+    printf("store: fresh, enter, settle, fill and read as asked; refusals 1 to 4 and 7 to 9 change nothing\n");
     return 0;
 }

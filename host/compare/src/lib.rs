@@ -1,6 +1,7 @@
 //! Runs calls through document 01's model and what is held against it: the
 //! published Rust (`run`), where listed differences are forgiven, and a library
-//! of the seven calls (`gate`), where none is.
+//! of the seven calls (`gate`), where none is; or through all three (`three`).
+//! `plain` holds a library against demand 3's plain arrays.
 
 pub mod alone;
 pub mod broken;
@@ -11,10 +12,12 @@ pub mod gate;
 pub mod generate;
 pub mod guard;
 pub mod library;
+pub mod plain;
 pub mod recorded;
 pub mod rough;
 pub mod run;
 pub mod sample;
 pub mod shrink;
 pub mod smallest;
+pub mod three;
 pub mod walk;

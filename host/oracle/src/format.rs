@@ -19,5 +19,25 @@ pub(crate) enum TreeKind {
 /// published: document 01's unit checksum. Left out: its errors, of which
 /// nothing is known.
 pub(crate) fn data_unit_crc(uuid: &[u8; 16], object: u64, unit: u64, valid: &[u8]) -> Result<u32> {
-    Ok(model::crc32c::unit_checksum(uuid, object, unit, valid))
+    #[cfg(feature = "mounted")]
+    let checksum = CHECKSUM.get();
+    #[cfg(not(feature = "mounted"))]
+    let checksum = model::crc32c::unit_checksum;
+    Ok(checksum(uuid, object, unit, valid))
+}
+
+/// A way to compute the unit checksum.
+#[cfg(feature = "mounted")]
+pub type Checksum = fn(&[u8; 16], u64, u64, &[u8]) -> u32;
+
+#[cfg(feature = "mounted")]
+thread_local! {
+    static CHECKSUM: std::cell::Cell<Checksum> =
+        const { std::cell::Cell::new(model::crc32c::unit_checksum) };
+}
+
+/// From now on this thread's unit checksums are computed so.
+#[cfg(feature = "mounted")]
+pub fn compute_checksums_by(checksum: Checksum) {
+    CHECKSUM.set(checksum);
 }

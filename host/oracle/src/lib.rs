@@ -47,6 +47,10 @@ type Result<T> = std::result::Result<T, Error>;
 
 #[cfg(carryfs)]
 pub use format::compact_group;
+#[cfg(all(carryfs, feature = "mounted"))]
+pub use format::{Checksum, compute_checksums_by};
+#[cfg(all(carryfs, feature = "mounted"))]
+pub use volume::Mounted;
 #[cfg(carryfs)]
 pub use volume::run;
 

@@ -1,5 +1,7 @@
 //! `crate::tree`: an ordered map of catalog records in place of the tree.
 
+#[cfg(feature = "mounted")]
+use std::cell::RefCell;
 use std::collections::BTreeMap;
 use std::ops::Bound;
 use std::rc::Rc;
@@ -17,17 +19,51 @@ type Records = BTreeMap<Rc<[u8]>, Rc<[u8]>>;
 /// Stands for the root edge of the catalog: a snapshot of its records, as an
 /// edge of the published tree is one. Left out: pages, levels, generations,
 /// block totals.
+///
+/// Of a mounted store all edges are the same records, changed in place: file.rs
+/// keeps copies of an edge while it changes another, and a snapshot for each
+/// would be charged to its time. It never reads from an older edge what it has
+/// changed in a newer one.
 #[derive(Clone, Default)]
-pub(crate) struct Edge(Rc<Records>);
+pub(crate) struct Edge(Shared);
+
+#[cfg(not(feature = "mounted"))]
+type Shared = Rc<Records>;
+#[cfg(feature = "mounted")]
+type Shared = Rc<RefCell<Records>>;
 
 impl Edge {
     pub(crate) fn of(records: impl Iterator<Item = Record>) -> Self {
         let records = records.map(|(key, value)| (key.into(), value.into()));
-        Self(Rc::new(records.collect()))
+        let records: Records = records.collect();
+        #[cfg(feature = "mounted")]
+        let records = RefCell::new(records);
+        Self(Rc::new(records))
     }
 
-    pub(crate) fn records(&self) -> impl Iterator<Item = (&[u8], &[u8])> {
-        self.0.iter().map(|(key, value)| (&**key, &**value))
+    pub(crate) fn records(&self) -> Vec<Record> {
+        let pair = |(key, value): (&Rc<[u8]>, &Rc<[u8]>)| (key.to_vec(), value.to_vec());
+        self.look(|records| records.iter().map(pair).collect())
+    }
+
+    #[cfg(not(feature = "mounted"))]
+    fn look<T>(&self, look: impl FnOnce(&Records) -> T) -> T {
+        look(&self.0)
+    }
+
+    #[cfg(not(feature = "mounted"))]
+    fn change(&mut self, change: impl FnOnce(&mut Records)) {
+        change(Rc::make_mut(&mut self.0));
+    }
+
+    #[cfg(feature = "mounted")]
+    fn look<T>(&self, look: impl FnOnce(&Records) -> T) -> T {
+        look(&self.0.borrow())
+    }
+
+    #[cfg(feature = "mounted")]
+    fn change(&mut self, change: impl FnOnce(&mut Records)) {
+        change(&mut self.0.borrow_mut());
     }
 }
 
@@ -60,14 +96,16 @@ impl<'a, D: BlockDevice> Forest<'a, D> {
     }
 
     pub fn lookup(&mut self, root: &Edge, _: TreeKind, key: &[u8]) -> Result<Option<Vec<u8>>> {
-        Ok(root.0.get(key).map(|value| value.to_vec()))
+        Ok(root.look(|records| records.get(key).map(|value| value.to_vec())))
     }
 
     /// The record with the greatest key less than or equal to `key`.
     pub fn floor(&mut self, root: &Edge, _: TreeKind, key: &[u8]) -> Result<Option<Record>> {
         let upto = (Bound::Unbounded, Bound::Included(key));
-        let last = root.0.range::<[u8], _>(upto).next_back();
-        Ok(last.map(|(key, value)| (key.to_vec(), value.to_vec())))
+        Ok(root.look(|records| {
+            let last = records.range::<[u8], _>(upto).next_back();
+            last.map(|(key, value)| (key.to_vec(), value.to_vec()))
+        }))
     }
 
     /// At most `limit` records from `start` on, before `end`.
@@ -83,24 +121,29 @@ impl<'a, D: BlockDevice> Forest<'a, D> {
             return Err(Error::LimitExceeded);
         }
         let from = (Bound::Included(start), Bound::Unbounded);
-        Ok(root
-            .0
-            .range::<[u8], _>(from)
-            .take_while(|(key, _)| end.is_none_or(|end| &***key < end))
-            .take(limit)
-            .map(|(key, value)| (key.to_vec(), value.to_vec()))
-            .collect())
+        Ok(root.look(|records| {
+            records
+                .range::<[u8], _>(from)
+                .take_while(|(key, _)| end.is_none_or(|end| &***key < end))
+                .take(limit)
+                .map(|(key, value)| (key.to_vec(), value.to_vec()))
+                .collect()
+        }))
     }
 
     pub fn put(&mut self, root: Edge, _: TreeKind, key: &[u8], value: &[u8]) -> Result<Edge> {
         let mut root = root;
-        Rc::make_mut(&mut root.0).insert(key.into(), value.into());
+        root.change(|records| {
+            records.insert(key.into(), value.into());
+        });
         Ok(root)
     }
 
     pub fn remove(&mut self, root: Edge, _: TreeKind, key: &[u8]) -> Result<Edge> {
         let mut root = root;
-        Rc::make_mut(&mut root.0).remove(key);
+        root.change(|records| {
+            records.remove(key);
+        });
         Ok(root)
     }
 }

@@ -11,9 +11,13 @@ use crate::tree::{Edge, Forest, Root};
 use crate::{BlockDevice, Error, Result};
 
 mod driver;
+#[cfg(feature = "mounted")]
+mod mounted;
 mod namespace;
 
 pub use driver::run;
+#[cfg(feature = "mounted")]
+pub use mounted::Mounted;
 
 // The published text, from where it stands:
 //     #[path = "<carryfs source>/src/volume/file.rs"] mod file;

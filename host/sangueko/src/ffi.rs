@@ -85,6 +85,27 @@ unsafe extern "C" {
         retired: *const u8,
         retired_len: usize,
     ) -> Answer;
+
+    fn sangueko_read(
+        image: *const u8,
+        image_len: usize,
+        head: *const u8,
+        head_len: usize,
+        cards: *const u8,
+        cards_len: usize,
+        extents: *const u8,
+        extents_len: usize,
+        groups: *const u8,
+        groups_len: usize,
+        used: *const u8,
+        used_len: usize,
+        retired: *const u8,
+        retired_len: usize,
+        object: u64,
+        offset: u64,
+        out: *mut u8,
+        out_len: usize,
+    ) -> Answer;
 }
 
 // SAFETY of each: the pointers and lengths are those of slices that live
@@ -182,6 +203,31 @@ pub fn fill(store: &Store<'_>) -> Result<u64, Refusal> {
             store.used.len(),
             store.retired.as_ptr(),
             store.retired.len(),
+        )
+    })
+}
+
+pub fn read(store: &Store<'_>, object: u64, offset: u64, out: &mut [u8]) -> Result<u64, Refusal> {
+    result(unsafe {
+        sangueko_read(
+            store.image.as_ptr(),
+            store.image.len(),
+            store.head.as_ptr(),
+            store.head.len(),
+            store.cards.as_ptr(),
+            store.cards.len(),
+            store.extents.as_ptr(),
+            store.extents.len(),
+            store.groups.as_ptr(),
+            store.groups.len(),
+            store.used.as_ptr(),
+            store.used.len(),
+            store.retired.as_ptr(),
+            store.retired.len(),
+            object,
+            offset,
+            out.as_mut_ptr(),
+            out.len(),
         )
     })
 }

@@ -50,8 +50,10 @@ pub const UUID_BYTES: usize = 16;
 pub const MOST_BLOCKS: usize = 65_536;
 /// Places of a book at most.
 pub const MOST_PLACES: usize = 1_048_575;
+/// Bytes that one read takes at most.
+pub const MOST_TRANSFER: usize = 1_048_576;
 /// Stack that a call takes at most.
-pub const STACK_BYTES: usize = 4_096;
+pub const STACK_BYTES: usize = 65_536;
 
 /// Bytes of a map of so many blocks: 8 for each 64 blocks begun.
 ///

@@ -80,6 +80,40 @@ impl Store<'_> {
         ffi::enter(self, object, seconds, nanoseconds)
     }
 
+    /// Reads the file's bytes from `offset` on to the head of `out`: as many as
+    /// it has room for, as there are before the file's end, and at most
+    /// [`MOST_TRANSFER`](crate::MOST_TRANSFER). Answers how many; the rest of
+    /// `out` stays as it is. At or past the end, and for an empty `out`, that is
+    /// 0. What was never written reads as zeros.
+    ///
+    /// Every unit of 64 KiB that a byte of the answer lies in is checked whole
+    /// against its checksum before the first byte is handed out.
+    ///
+    /// # Errors
+    ///
+    /// In this order: [`WrongLength`](Refusal::WrongLength),
+    /// [`BrokenRule`](Refusal::BrokenRule), [`NoCard`](Refusal::NoCard); then,
+    /// unit by unit, [`NoChecksum`](Refusal::NoChecksum),
+    /// [`NotBacked`](Refusal::NotBacked),
+    /// [`NonzeroPastEnd`](Refusal::NonzeroPastEnd),
+    /// [`ChecksumDiffers`](Refusal::ChecksumDiffers).
+    ///
+    /// ```
+    /// # use sangueko::{Places, Refusal, StoreBuf};
+    /// # let mut buffers = StoreBuf::new(8, Places { cards: 1, extents: 8, groups: 1 })?;
+    /// # let mut store = buffers.lend();
+    /// # store.fresh(&[0; 16], 1)?;
+    /// store.enter(7, 1_700_000_000, 0)?;
+    /// let mut out = [1; 4];
+    /// assert_eq!(store.read(7, 0, &mut out), Ok(0)); // the file is empty
+    /// assert_eq!(store.read(8, 0, &mut out), Err(Refusal::NoCard));
+    /// assert_eq!(out, [1; 4]);
+    /// # Ok::<(), Refusal>(())
+    /// ```
+    pub fn read(&self, object: u64, offset: u64, out: &mut [u8]) -> Result<u64, Refusal> {
+        ffi::read(self, object, offset, out)
+    }
+
     /// Lets the retired blocks go, which are free afterwards. Answers how many
     /// they were.
     ///

@@ -1,59 +1,15 @@
 //! The archive held against the model: on every call and store of the gate,
 //! on little stack, and with empty buffers.
 
+mod archive;
+
 use std::thread;
 
+use archive::Archive;
 use compare::alone::{calls, sounds};
 use compare::gate::judge;
-use compare::library::{Lent, Library, Request, Told};
+use compare::library::Library;
 use model::{Answer, Call};
-use sangueko::{Refusal, Store};
-
-/// The linked archive, through the safe calls.
-struct Archive;
-
-impl Library for Archive {
-    /// Write, grow and read do not stand yet.
-    fn supports(&self, call: &Call) -> bool {
-        matches!(
-            call,
-            Call::Fresh { .. } | Call::Enter { .. } | Call::Settle | Call::Fill
-        )
-    }
-
-    fn lent(&self, lent: Lent<'_>, request: Request<'_>) -> Told {
-        let mut store = Store {
-            image: lent.image,
-            head: lent.head,
-            cards: lent.cards,
-            extents: lent.extents,
-            groups: lent.groups,
-            used: lent.used,
-            retired: lent.retired,
-        };
-        told(match request {
-            Request::Fresh { uuid, reserved } => store.fresh(uuid, reserved),
-            Request::Enter {
-                object,
-                seconds,
-                nanoseconds,
-            } => store.enter(object, seconds, nanoseconds),
-            Request::Settle => store.settle(),
-            Request::Fill => store.fill(),
-            Request::Write { .. } | Request::Grow { .. } | Request::Read { .. } => {
-                unreachable!("a call that it does not have")
-            }
-        })
-    }
-}
-
-fn told(result: Result<u64, Refusal>) -> Told {
-    let (number, count) = match result {
-        Ok(count) => (0, count),
-        Err(refusal) => (refusal.number(), 0),
-    };
-    Told { number, count }
-}
 
 /// Without guard pages, then with them on either side of every buffer.
 /// `-- --nocapture` prints the calls by number.
@@ -61,7 +17,7 @@ fn told(result: Result<u64, Refusal>) -> Told {
 fn the_library_answers_as_the_model() {
     let report = judge(&Archive).unwrap_or_else(|parted| panic!("{}", parted.report()));
     print!("{report}");
-    for name in ["fresh", "enter", "settle", "fill"] {
+    for name in ["fresh", "enter", "read", "settle", "fill"] {
         let asked = report.lines().find(|line| line.trim().starts_with(name));
         // Accepted calls and, of each, refused ones.
         let asked = asked.expect("a line for each call");

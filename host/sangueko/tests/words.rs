@@ -66,6 +66,7 @@ fn the_header_has_the_same_sizes() {
         ("UUID_BYTES", sangueko::UUID_BYTES),
         ("MOST_BLOCKS", sangueko::MOST_BLOCKS),
         ("MOST_PLACES", sangueko::MOST_PLACES),
+        ("MOST_TRANSFER", sangueko::MOST_TRANSFER),
         ("STACK_BYTES", sangueko::STACK_BYTES),
     ];
     let defined: Vec<&str> = HEADER

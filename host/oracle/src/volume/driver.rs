@@ -107,7 +107,7 @@ fn answer(store: &mut Store, call: &Call, output: &mut [u8]) -> Outcome {
 
 /// The catalog that the three books make up: inode, extent and group records
 /// under the published keys, groups in their stored, compact form.
-fn catalog(store: &Store, head: &Head) -> Edge {
+pub(super) fn catalog(store: &Store, head: &Head) -> Edge {
     let cards = store.cards.chunks(CARD_BYTES).take(head.cards);
     let cards = cards.map(|place| -> Record {
         let card = Card::decode(place);
@@ -161,7 +161,7 @@ impl Books {
         for (key, value) in catalog.records() {
             match key[8] {
                 1 => {
-                    let inode = Inode::decode(value).expect("encoded by this crate");
+                    let inode = Inode::decode(&value).expect("encoded by this crate");
                     books.cards.push(Card {
                         object: u64::from_be_bytes(key[..8].try_into().expect("8 bytes")),
                         size: inode.size,
@@ -171,7 +171,7 @@ impl Books {
                     });
                 }
                 3 => books.extents.push([key, value].concat()),
-                4 => books.groups.push([key, &expand_group(value)].concat()),
+                4 => books.groups.push([&*key, &expand_group(&value)].concat()),
                 kind => unreachable!("a record of kind {kind}"),
             }
         }
