@@ -27,7 +27,8 @@ use Rattle.mapping.specs.Entries.{entryOf, entries, Inside}
 use Rattle.inspect.specs.declared.Inspected.{Inspected}
 use Rattle.inspect.specs.declared.Inspected.the-variants.{Damaged, Hole, Checked}
 use Rattle.inspect.specs.Mapped.{validBlocks, validOf, slotMapped, inspectMapped, checkMapped}
-use Rattle.inspect.specs.Answer.{answerOf, refusedBy, checkNumber, unitNumber, numberFrom}
+use Rattle.rules.specs.Answers.{checkedNumber}
+use Rattle.inspect.specs.Answer.{answerOf, refusedBy, unitNumber, numberFrom}
 use Rattle.inspect.specs.Runs.{backedBytes}
 use Rattle.inspect.proofs.BlockLaws.{take-map, drop-map}
 
@@ -111,20 +112,20 @@ unfolding refusedBy
 refused-checked answer e = rw e refl
 
 -- bytes in front change no number
-follow-number : (xs : List ℕ) (rest : read.Checked) → checkNumber (follow xs rest) ≡ checkNumber rest
-unfolding checkNumber follow
+follow-number : (xs : List ℕ) (rest : read.Checked) → checkedNumber (follow xs rest) ≡ checkedNumber rest
+unfolding checkedNumber follow
 follow-number xs (failed r) = refl
 follow-number xs (bytes ys) = refl
 
 -- a unit that is not refused, and one that is
-then-none : (valid : ℕ) (x : rules.Inspected) (rest : read.Checked) → refusedBy (answerOf x) ≡ 0 → checkNumber (thenUnits valid x rest) ≡ checkNumber rest
+then-none : (valid : ℕ) (x : rules.Inspected) (rest : read.Checked) → refusedBy (answerOf x) ≡ 0 → checkedNumber (thenUnits valid x rest) ≡ checkedNumber rest
 unfolding refusedBy answerOf thenUnits
 then-none valid (damaged r) rest e = absurd (omega (arith, numbered r .least))
 then-none valid hole rest e = follow-number (replicate valid 0) rest
 then-none valid (checked xs) rest e = follow-number xs rest
 
-then-some : (valid : ℕ) (x : rules.Inspected) (rest : read.Checked) → (refusedBy (answerOf x) ≡ 0 → ⊥) → refusedBy (answerOf x) ≡ checkNumber (thenUnits valid x rest)
-unfolding refusedBy answerOf thenUnits checkNumber
+then-some : (valid : ℕ) (x : rules.Inspected) (rest : read.Checked) → (refusedBy (answerOf x) ≡ 0 → ⊥) → refusedBy (answerOf x) ≡ checkedNumber (thenUnits valid x rest)
+unfolding refusedBy answerOf thenUnits checkedNumber
 then-some valid (damaged r) rest d = refl
 then-some valid hole rest d = absurd (d refl)
 then-some valid (checked xs) rest d = absurd (d refl)
@@ -140,7 +141,7 @@ module _ (image uuid : List ℕ) (object size first : ℕ) (slots blocks : List 
   -- the k-th unit and those behind it
   units-from : (k : ℕ) → k < length slots
       → numberFrom image uuid object size first slots blocks k
-      ≡ checkNumber (thenUnits (validLength size (first + k)) (inspectMapped image uuid object size (first + k) (take unitBlocks (drop (unitBlocks * k) (entries blocks))) (entryOf (getD slots k 0)))
+      ≡ checkedNumber (thenUnits (validLength size (first + k)) (inspectMapped image uuid object size (first + k) (take unitBlocks (drop (unitBlocks * k) (entries blocks))) (entryOf (getD slots k 0)))
       (checkMapped image uuid object size (first + suc k) (drop (suc k) (entries slots)) (drop (unitBlocks * suc k) (entries blocks))))
   unfolding numberFrom checkMapped
   units-from k l =
@@ -149,7 +150,7 @@ module _ (image uuid : List ℕ) (object size first : ℕ) (slots blocks : List 
       rw (slots-from k l, a, drop-drop unitBlocks (unitBlocks * k) (entries blocks), b) refl
 
   -- the loop: before the first
-  pub number-begun : checkNumber (checkMapped image uuid object size first (entries slots) (entries blocks)) ≡ numberFrom image uuid object size first slots blocks 0
+  pub number-begun : checkedNumber (checkMapped image uuid object size first (entries slots) (entries blocks)) ≡ numberFrom image uuid object size first slots blocks 0
   unfolding numberFrom
   number-begun = rw (add-zero first) refl
 
@@ -170,7 +171,7 @@ module _ (image uuid : List ℕ) (object size first : ℕ) (slots blocks : List 
 
   -- behind the last
   pub number-done : (k total : ℕ) → length slots ≤ k → total ≡ numberFrom image uuid object size first slots blocks k → 0 ≡ total
-  unfolding numberFrom checkMapped checkNumber entries
+  unfolding numberFrom checkMapped checkedNumber entries
   number-done k total l e = sym (e ∙ rw (drop-of-length-le (map entryOf slots) {i = k} (simp length-map l)) refl)
 
   -- the sixteen entries of the k-th

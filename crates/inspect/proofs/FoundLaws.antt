@@ -25,7 +25,8 @@ use Rattle.rules.proofs.CountLaws.{flatMap-append}
 use Rattle.history.proofs.UnitLaws.{valid-blocks}
 use Rattle.mapping.specs.Entries.{entryOf, entries, Inside}
 use Rattle.inspect.specs.Mapped.{bytesAt, validBlocks, validOf, inspectMapped, checkMapped}
-use Rattle.inspect.specs.Answer.{answerOf, checkNumber}
+use Rattle.rules.specs.Answers.{checkedNumber}
+use Rattle.inspect.specs.Answer.{answerOf}
 use Rattle.inspect.proofs.BlockLaws.{length-block}
 use Rattle.inspect.proofs.InspectLaws.{answer-checked, answer-hole}
 
@@ -51,8 +52,8 @@ inspected-bytes xs ys e = ap inspectedBytes e
 
 -- units one after another of which one was refused gave no bytes
 failed-none : (r : Refusal) (xs : List ℕ) → failed r ≡ bytes xs → ⊥
-unfolding checkNumber
-failed-none r xs e = let z : numberOf r ≡ 0 = ap checkNumber e in omega (arith, numbered r .least)
+unfolding checkedNumber
+failed-none r xs e = let z : numberOf r ≡ 0 = ap checkedNumber e in omega (arith, numbered r .least)
 
 -- a unit's bytes come first, and those of the others behind them
 then-found : (valid : ℕ) (x : rules.Inspected) (rest : read.Checked) (us xs : List ℕ) → (x ≡ hole → replicate valid 0 ≡ us) → ((zs : List ℕ) → x ≡ checked zs → zs ≡ us)

@@ -35,7 +35,8 @@ use Rattle.history.proofs.UnitLaws.{valid-blocks}
 use Rattle.inspect.specs.declared.Inspected.{Inspected}
 use Rattle.inspect.specs.declared.Inspected.the-variants.{Damaged, Hole, Checked}
 use Rattle.inspect.specs.Mapped.{bytesAt, validBlocks, validOf, slotMapped, inspectMapped, checkMapped}
-use Rattle.inspect.specs.Answer.{answerOf, refusedBy, checkNumber}
+use Rattle.rules.specs.Answers.{checkedNumber}
+use Rattle.inspect.specs.Answer.{answerOf, refusedBy}
 use Rattle.inspect.proofs.BlockLaws.{take-map, drop-map, not-false}
 
 -- ---- the units of a volume
@@ -190,12 +191,12 @@ answer-hole image uuid object size unit mapped (some crc) h =
     not-backed nonzero-past-end checksum-differs (validOf image uuid object size unit mapped) h)
 
 -- an answer of units one after another: none was refused, or the first refusal has that number
-pub check-zero : (x : read.Checked) → checkNumber x ≡ 0 → (xs : List ℕ) × (x ≡ bytes xs)
-unfolding checkNumber
+pub check-zero : (x : read.Checked) → checkedNumber x ≡ 0 → (xs : List ℕ) × (x ≡ bytes xs)
+unfolding checkedNumber
 check-zero (failed r) e = absurd (omega (arith, numbered r .least))
 check-zero (bytes xs) e = (xs, refl)
 
-pub check-refused : (x : read.Checked) → (checkNumber x ≡ 0 → ⊥) → (r : Refusal) × (x ≡ failed r) × (checkNumber x ≡ numberOf r)
-unfolding checkNumber
+pub check-refused : (x : read.Checked) → (checkedNumber x ≡ 0 → ⊥) → (r : Refusal) × (x ≡ failed r) × (checkedNumber x ≡ numberOf r)
+unfolding checkedNumber
 check-refused (failed r) d = (r, refl, refl)
 check-refused (bytes xs) d = absurd (d refl)

@@ -7,8 +7,7 @@ use Rattle.rules.specs.Sizes.{unitBlocks}
 use Rattle.rules.specs.Refusal.{numberOf}
 use Rattle.rules.specs.Inspect as rules
 use Rattle.rules.specs.Inspect.Inspected.{damaged, hole, checked}
-use Rattle.rules.specs.Read as read
-use Rattle.rules.specs.Read.Checked.{failed, bytes}
+use Rattle.rules.specs.Answers.{checkedNumber}
 use Rattle.mapping.specs.Entries.{entryOf, entries}
 use Rattle.inspect.specs.Mapped.{inspectMapped, checkMapped}
 use Rattle.inspect.specs.declared.Inspected.{Inspected}
@@ -26,11 +25,6 @@ refusedBy (Damaged n) = n
 refusedBy Hole = 0
 refusedBy Checked = 0
 
--- the answer for units one after another: the number of the first refusal, or 0
-unfoldable pub checkNumber : read.Checked → ℕ
-checkNumber (failed r) = numberOf r
-checkNumber (bytes xs) = 0
-
 -- units from first on, with arrays of slots and blocks, sixteen for each
 module _ (image uuid : List ℕ) (object size first : ℕ) (slots blocks : List ℕ) where
   -- the number of the refusal of the k-th of them, or 0
@@ -40,4 +34,4 @@ module _ (image uuid : List ℕ) (object size first : ℕ) (slots blocks : List 
 
   -- that of the first refusal from the k-th on, or 0
   unfoldable pub numberFrom : ℕ → ℕ
-  numberFrom k = checkNumber (checkMapped image uuid object size (first + k) (drop k (entries slots)) (drop (unitBlocks * k) (entries blocks)))
+  numberFrom k = checkedNumber (checkMapped image uuid object size (first + k) (drop k (entries slots)) (drop (unitBlocks * k) (entries blocks)))

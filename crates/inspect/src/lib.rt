@@ -17,7 +17,8 @@ ghost use Rattle.crc32c.specs.Register.{Tables};
 ghost use Rattle.crc32c.specs.Unit.{UnitFed};
 ghost use Rattle.mapping.specs.Entries.{entryOf, entries, Inside};
 ghost use Rattle.inspect.specs.Mapped.{slotMapped, inspectMapped, checkMapped};
-ghost use Rattle.inspect.specs.Answer.{answerOf, refusedBy, checkNumber, unitNumber};
+ghost use Rattle.rules.specs.Answers.{checkedNumber};
+ghost use Rattle.inspect.specs.Answer.{answerOf, refusedBy, unitNumber};
 ghost use Rattle.inspect.specs.Runs.{Backed, Run, backedBytes, bytesBefore};
 
 // What a unit that is read is: damaged, by the number of the refusal; a hole; or checked, its bytes right where they stand.
@@ -330,7 +331,7 @@ pub fn check_units(
     requires { ⌜ length (now blocks) ≡ unitBlocks * length (now slots) ⌝ }
     requires { ⌜ Inside (now image) (now blocks) ⌝ }
     requires { ⌜ ((k : ℕ) → k < length (now slots) → ((first + k) * unitBytes < size) × (getD (now slots) k 0 ≤ 2 ^ 32)) ⌝ }
-    ensures { λ r. ⌜ r ≡ checkNumber (checkMapped (now (image .entry)) (now (uuid .entry)) object size first (entries (now (slots .entry))) (entries (now (blocks .entry)))) ⌝ }
+    ensures { λ r. ⌜ r ≡ checkedNumber (checkMapped (now (image .entry)) (now (uuid .entry)) object size first (entries (now (slots .entry))) (entries (now (blocks .entry)))) ⌝ }
 {
     let mut k: usize = 0;
     while k < slots.len() {

@@ -13,7 +13,7 @@ ghost use Rattle.rules.specs.Book.{decodeBook};
 ghost use Rattle.rules.specs.Read.{readLength};
 ghost use Rattle.crc32c.specs.Register.{Tables};
 ghost use Rattle.mapping.specs.Entries.{entries, Inside, extentsIn, slotOf};
-ghost use Rattle.inspect.specs.Answer.{checkNumber};
+ghost use Rattle.rules.specs.Answers.{checkedNumber};
 ghost use Rattle.inspect.specs.Mapped.{checkMapped};
 ghost use Rattle.read.specs.Range.{Readable, checkedRange};
 ghost use Rattle.read.specs.Gives.{gives, givesChecked, checkedUnits, givesSized, givesRead, ReadReady};
@@ -86,7 +86,7 @@ fn check_slots(
     requires { ⌜ Inside (now image) (now blocks) ⌝ }
     requires { ⌜ length (now blocks) ≡ unitBlocks * length (now slots) ⌝ }
     requires { ⌜ (first + length (now slots)) * unitBytes < size + unitBytes ⌝ }
-    ensures { λ r. ⌜ r ≡ checkNumber (checkMapped (now (image .entry)) (now (uuid .entry)) object size first (map (slotOf (decodeBook decodeGroup groupBytes g (now (groups .entry))) object) (range first (length (now (slots .entry))))) (entries (now (blocks .entry)))) ⌝ }
+    ensures { λ r. ⌜ r ≡ checkedNumber (checkMapped (now (image .entry)) (now (uuid .entry)) object size first (map (slotOf (decodeBook decodeGroup groupBytes g (now (groups .entry))) object) (range first (length (now (slots .entry))))) (entries (now (blocks .entry)))) ⌝ }
 {
     mapping::slots::unit_slots(groups, g, object, first, slots);
     inspect::check_units(t, w, image, uuid, object, size, first, slots, blocks)
@@ -113,7 +113,7 @@ pub fn check_range(
     requires { ⌜ Readable (now image) (now extents) (now groups) e g ⌝ }
     requires { ⌜ (length (now blocks) ≡ k * unitBlocks) × (k ≤ 17) ⌝ }
     requires { ⌜ (first + k) * unitBytes < size + unitBytes ⌝ }
-    ensures { λ r. ⌜ (r ≡ checkNumber (checkedRange (now (image .entry)) (now (uuid .entry)) (now (extents .entry)) (now (groups .entry)) e g object size first k)) × (entries (now (blocks .exit)) ≡ map (mapping (extentsIn e (now (extents .entry))) object) (range (first * unitBlocks) (k * unitBlocks))) ⌝ }
+    ensures { λ r. ⌜ (r ≡ checkedNumber (checkedRange (now (image .entry)) (now (uuid .entry)) (now (extents .entry)) (now (groups .entry)) e g object size first k)) × (entries (now (blocks .exit)) ≡ map (mapping (extentsIn e (now (extents .entry))) object) (range (first * unitBlocks) (k * unitBlocks))) ⌝ }
 {
     mapping::extents::map_blocks(extents, e, object, first * UNIT_BLOCKS as u64, blocks);
     let mut slots = [0u64; MOST_UNITS];

@@ -1,25 +1,23 @@
 -- From the tests and the inner call of a read to the call of the rules.
 -- Assumes nothing.
 use mathlib.Core.Path.{_≡_, refl, sym, ap, _∙_}
-use mathlib.Core.List.{List, [], _∷_, map}
+use mathlib.Core.List.{List, map}
 use mathlib.Core.Option.{Option, none, some}
 use Prim.Native.Nat.{ℕ, _+_, _-_, _*_, _/_, _%_}
 use native.Mathlib.Omega.{arith}
 use lib.Dec.{eqb}
 use lib.ListN.{length}
 use borrow.Author.Tests.{eqb-true, eqb-false}
-use Rattle.rules.specs.Lists.{maybe, range, ascending, begun}
-use Rattle.rules.specs.Sizes.{blockBytes, unitBlocks, unitBytes}
+use Rattle.rules.specs.Lists.{maybe, range, begun}
+use Rattle.rules.specs.Sizes.{unitBlocks, unitBytes}
 use Rattle.rules.specs.Head.{decodeHead}
-use Rattle.rules.specs.Card.{Card, cardBefore}
-use Rattle.rules.specs.Extent.{extentBefore, mapping}
-use Rattle.rules.specs.Group.{groupBefore}
-use Rattle.rules.specs.Book.{decodeBooks, bookPlaces}
+use Rattle.rules.specs.Card.{Card}
+use Rattle.rules.specs.Extent.{mapping}
+use Rattle.rules.specs.Book.{decodeBooks}
 use Rattle.rules.specs.Store.{Store, decode, decodeWith, cardOf}
 use Rattle.rules.specs.Refusal.{Outcome, Result, numberOf, result}
 use Rattle.rules.specs.Refusal.Refusal.{no-card}
 use Rattle.rules.specs.Refusal.Outcome.{refuse, accept}
-use Rattle.rules.specs.Integrity.{ordered, noneEmpty, noOverlap, onDevice}
 use Rattle.rules.specs.Arguments.{withCard}
 use Rattle.rules.specs.Units.{unitsOf}
 use Rattle.rules.specs.Inspect.{checksumOf}
@@ -30,49 +28,28 @@ use Rattle.rules.specs.Call.{call}
 use Rattle.rules.specs.Call.Look.{read}
 use Rattle.rules.specs.Call.Call.{look}
 use Rattle.rules.proofs.ListLaws.{test-cases, if-true, if-false, find-passes}
-use Rattle.rules.proofs.PassLaws.{each-passed, Passes, Lawful, HeadRoom, BuffersSized, passes-sized, passes-head, passes-room, lawful-decode}
+use Rattle.rules.proofs.PassLaws.{Passes, Lawful, passes-head, lawful-decode}
 use Rattle.rules.proofs.OutcomeLaws.{goes-on}
 use Rattle.rules.proofs.UnitListLaws.{unitsOf-some}
 use Rattle.intake.specs.Join.{storeNumber}
-use Rattle.mapping.specs.Entries.{ExtentsRight, slotOf}
+use Rattle.mapping.specs.Entries.{slotOf}
+use Rattle.mapping.proofs.LookupLaws.{passes-extents, passes-groups}
 use Rattle.inspect.specs.Mapped.{checkMapped}
 use Rattle.inspect.proofs.InspectLaws.{check-mapped}
 use Rattle.read.specs.Range.{checkedRange}
 use Rattle.read.specs.Gives.{Gives, gives, givesChecked, checkedUnits, givesSized, givesRead, ReadReady}
 use Rattle.volume.specs.Call.{handed}
-use Rattle.volume.proofs.CallLaws.{stopped, blocks-are, few-blocks}
+use Rattle.volume.proofs.CallLaws.{stopped, blocks-are, cards-counted}
 
 -- ---- what the inner call asks for
 
-module _ (s : Store) (p : Passes s) where
-  -- the book of extents keeps its rules
-  extents-right : ExtentsRight (length (s .image) / blockBytes) (decodeHead (s .head) .extents) (s .extents)
-  unfolding ordered noneEmpty noOverlap onDevice decode decodeWith decodeBooks bookPlaces
-  extents-right =
-      let l : Lawful (decode s) = lawful-decode s p in
-      let z : BuffersSized s = passes-sized s p in
-      let r : HeadRoom s (decodeHead (s .head)) = passes-room s p in
-      let o = each-passed (ascending cardBefore (decode s .books .cards)) (ascending extentBefore (decode s .books .extents) ∷ ascending groupBefore (decode s .books .groups) ∷ []) (l .order) in
-      record {
-        places = omega (arith, r .extents);
-        few = omega (arith, r .extents, z .extents .most);
-        order = o .1 .0;
-        filled = l .filled;
-        apart = l .apart;
-        device = rw (blocks-are s p) at (l .device);
-        most = few-blocks s p;
-      }
-
-  -- the head and the books of a store that passes
-  pub read-ready : ReadReady (s .image) (s .head) (s .cards) (s .extents) (s .groups)
-  unfolding bookPlaces
-  read-ready =
-      let r : HeadRoom s (decodeHead (s .head)) = passes-room s p in
-      record {
-        width = passes-head s p;
-        places = omega (arith, r .cards);
-        books = record { right = extents-right; places = omega (arith, r .groups) };
-      }
+-- the head and the books of a store that passes
+pub read-ready : (s : Store) → Passes s → ReadReady (s .image) (s .head) (s .cards) (s .extents) (s .groups)
+read-ready s p = record {
+  width = passes-head s p;
+  places = cards-counted s p (decodeHead (s .head) .cards) refl;
+  books = record { right = rw (blocks-are s p) at (passes-extents s p); places = passes-groups s p };
+}
 
 -- ---- the call
 

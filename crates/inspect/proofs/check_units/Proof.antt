@@ -6,14 +6,15 @@ use native.Mathlib.Omega.{arith}
 use lib.ListN.{length}
 use Rattle.mapping.specs.Entries.{entries}
 use Rattle.inspect.specs.Mapped.{checkMapped}
-use Rattle.inspect.specs.Answer.{checkNumber, numberFrom}
+use Rattle.rules.specs.Answers.{checkedNumber}
+use Rattle.inspect.specs.Answer.{numberFrom}
 use Rattle.inspect.proofs.AnswerLaws.{number-begun, number-more, number-refused, number-done}
 use borrow.Author.Needs.{needs}
 use Rattle.inspect.proofs.check_units.Statement.{statement}
 use Rattle.inspect.proofs.check_units.Tie as tie
 
 abbrev Inv-loop : tie.InvT-loop
-Inv-loop t w₀ image uuid object size first slots blocks k₀ w k = (k ≤ length slots) × (length w ≡ 4624) × (checkNumber (checkMapped image uuid object size first (entries slots) (entries blocks)) ≡ numberFrom image uuid object size first slots blocks k)
+Inv-loop t w₀ image uuid object size first slots blocks k₀ w k = (k ≤ length slots) × (length w ≡ 4624) × (checkedNumber (checkMapped image uuid object size first (entries slots) (entries blocks)) ≡ numberFrom image uuid object size first slots blocks k)
 
 abbrev μ-loop : tie.MeasureT-loop
 μ-loop t w₀ image uuid object size first slots blocks k₀ w k = length slots - k

@@ -5,7 +5,8 @@ use mathlib.Core.Path.{sym}
 use Prim.Native.Nat.{ℕ}
 use lib.ListN.{replicate}
 use lib.Seq.{length-take-le}
-use Rattle.read.proofs.RangeLaws.{right-most, range-inside, range-checked}
+use Rattle.mapping.proofs.LookupLaws.{extents-wider}
+use Rattle.read.proofs.RangeLaws.{range-inside, range-checked}
 use borrow.Author.Needs.{needs}
 use Rattle.read.proofs.check_range.Statement.{statement}
 use Rattle.read.proofs.check_range.Tie as tie
@@ -14,7 +15,7 @@ mul-map-blocks : tie.Need-mul-map-blocks
 mul-map-blocks c = search needs
 
 map-blocks-requires : tie.Need-map-blocks-requires
-map-blocks-requires c κs = let p = c .before .before .before .before .before .before .before .pre in (right-most _ _ _ (p .1 .1 .0 .right), (omega arith, omega arith))
+map-blocks-requires c κs = let p = c .before .before .before .before .before .before .before .pre in (extents-wider (p .1 .1 .0 .right), (omega arith, omega arith))
 
 array-borrow-prefix-slots : tie.Need-array-borrow-prefix-slots
 array-borrow-prefix-slots c = search needs
