@@ -1,0 +1,7 @@
+pub mod OutcomeLaws
+pub mod StoreLaws
+pub mod FlatLaws
+pub mod PartLaws
+pub mod CarryLaws
+pub mod LookUpLaws
+pub mod CallLaws

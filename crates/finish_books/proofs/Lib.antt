@@ -1,0 +1,9 @@
+pub mod PutLaws
+pub mod CardLaws
+pub mod HeadLaws
+pub mod MapLaws
+pub mod SlotLaws
+pub mod GroupListLaws
+pub mod AddLaws
+pub mod StepLaws
+pub mod MissingLaws

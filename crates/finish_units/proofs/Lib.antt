@@ -1,0 +1,4 @@
+pub mod UnitLaws
+pub mod OldLaws
+pub mod CarryLaws
+pub mod PlanFreeLaws
