@@ -1,4 +1,6 @@
-//! Reads: of 1 MiB from a unit's start, of 1 MiB from within one, of 100 bytes.
+//! Reads: of 1 MiB from a unit's start, of 1 MiB from within one, of 100 bytes;
+//! of the same bytes again and again, and of bytes all over the file, which do
+//! not stand in the processor's caches.
 
 use std::hint::black_box;
 use std::time::Duration;
@@ -9,10 +11,10 @@ use random::Rng;
 use sangueko::Store;
 
 use crate::checksum::by_instruction;
-use crate::measure::{pair, times};
+use crate::measure::{alone, pair, times};
 use crate::stores::{Extents, OBJECT, store};
 
-const ROUNDS: u32 = 60;
+const ROUNDS: u32 = 30;
 const SPAN: Duration = Duration::from_millis(4);
 const MIB: usize = 1 << 20;
 const UNIT: u64 = 65_536;
@@ -23,29 +25,32 @@ struct Shape {
     name: &'static str,
     length: usize,
     within: u64,
+    places: usize,
     limits: [f64; 2],
 }
 
-const SHAPES: [Shape; 3] = [
-    Shape {
-        name: "1 MiB",
-        length: MIB,
-        within: 0,
-        limits: [0.5, 0.7],
-    },
-    Shape {
-        name: "1 MiB, not aligned",
-        length: MIB,
-        within: 1_000,
-        limits: [0.5, 0.7],
-    },
-    Shape {
-        name: "100 bytes",
-        length: 100,
-        within: 1_000,
-        limits: [0.6, 2.0],
-    },
+const SHAPES: [Shape; 6] = [
+    shape("1 MiB", MIB, 0, 1),
+    shape("1 MiB, not aligned", MIB, 1_000, 1),
+    shape("1 MiB, all over the file", MIB, 0, 64),
+    shape("1 MiB, not aligned, all over", MIB, 1_000, 64),
+    shape("100 bytes", 100, 1_000, 1),
+    shape("100 bytes, all over the file", 100, 1_000, 64),
 ];
+
+const fn shape(name: &'static str, length: usize, within: u64, places: usize) -> Shape {
+    Shape {
+        name,
+        length,
+        within,
+        places,
+        limits: if length == MIB {
+            [0.5, 0.7]
+        } else {
+            [0.6, 2.0]
+        },
+    }
+}
 
 const STORES: [(&str, Extents); 3] = [
     ("10 extents", Extents { file: 10, other: 1 }),
@@ -114,7 +119,7 @@ fn tests_alone(lent: &Store<'_>) {
     let test = || {
         let _ = black_box(black_box(lent).fill());
     };
-    let (ours, _) = pair(ROUNDS, SPAN, test, || ());
+    let ours = alone(ROUNDS, SPAN, test);
     println!("{:<52} {:>8.2} us", "of that, refusals 1 and 2", ours * 1e6);
 }
 
@@ -126,7 +131,7 @@ pub fn by_extents() {
         let mut store = store(Extents { file: 10, other });
         let lent = lend(&mut store);
         let mut row = Vec::new();
-        for shape in [&SHAPES[0], &SHAPES[2]] {
+        for shape in [&SHAPES[0], &SHAPES[4]] {
             let offsets = offsets(shape);
             let mut at = offsets.iter().cycle();
             let mut out = vec![0; shape.length];
@@ -134,12 +139,12 @@ pub fn by_extents() {
                 let offset = *at.next().expect("an offset");
                 let _ = black_box(lent.read(OBJECT, offset, black_box(&mut out)));
             };
-            row.push(pair(ROUNDS, SPAN, read, || ()).0);
+            row.push(alone(ROUNDS, SPAN, read));
         }
         let test = || {
             let _ = black_box(black_box(&lent).fill());
         };
-        row.push(pair(ROUNDS, SPAN, test, || ()).0);
+        row.push(alone(ROUNDS, SPAN, test));
         println!(
             "{other:>8} {:>10.2} {:>10.2} {:>10.2}",
             row[0] * 1e6,
@@ -152,7 +157,7 @@ pub fn by_extents() {
 /// Places in the first 64 MiB of the file, the same for both.
 fn offsets(shape: &Shape) -> Vec<u64> {
     let mut random = Rng::new(4);
-    (0..64)
+    (0..shape.places)
         .map(|_| random.below(1_000) * UNIT + shape.within)
         .collect()
 }

@@ -17,6 +17,12 @@ pub fn pair(
     (best_ours, best_theirs)
 }
 
+/// The best time of one call of a job by itself.
+#[allow(dead_code)]
+pub fn alone(rounds: u32, span: Duration, mut job: impl FnMut()) -> f64 {
+    (0..rounds).fold(f64::INFINITY, |best, _| best.min(per_call(span, &mut job)))
+}
+
 /// Seconds of one call, from as many as fill the span.
 fn per_call(span: Duration, job: &mut impl FnMut()) -> f64 {
     let mut calls = 1u64;
