@@ -52,28 +52,36 @@ const fn shape(name: &'static str, length: usize, within: u64, places: usize) ->
     }
 }
 
-const STORES: [(&str, Extents); 3] = [
-    ("10 extents", Extents { file: 10, other: 1 }),
+/// Places of each book at least, the groups' too.
+const PLACES: usize = 1_024;
+
+const STORES: [(&str, Extents); 6] = [
+    ("10 extents", extents(10, 1, PLACES)),
+    ("10,000 extents", extents(10_000, 1, PLACES)),
+    ("10,000 in another file", extents(10, 10_000, PLACES)),
+    ("10 extents, few places for groups", extents(10, 1, 0)),
     (
-        "10,000 extents",
-        Extents {
-            file: 10_000,
-            other: 1,
-        },
+        "10,000 extents, few places for groups",
+        extents(10_000, 1, 0),
     ),
     (
-        "10,000 in another file",
-        Extents {
-            file: 10,
-            other: 10_000,
-        },
+        "10,000 in another file, few places for groups",
+        extents(10, 10_000, 0),
     ),
 ];
 
+const fn extents(file: u64, other: u64, group_places: usize) -> Extents {
+    Extents {
+        file,
+        other,
+        group_places,
+    }
+}
+
 /// Each shape on each store, ours and theirs.
 pub fn compared() {
-    for (at, (on, extents)) in STORES.iter().enumerate() {
-        let mut store = store(*extents);
+    for (at, (on, shape)) in STORES.iter().enumerate() {
+        let mut store = store(*shape);
         let mut mounted = Mounted::new(&store);
         let lent = lend(&mut store);
         println!("-- {on}");
@@ -104,7 +112,7 @@ pub fn compared() {
                     },
                 );
                 times(&format!("read {}, and Rust with {with}", shape.name), best);
-                let limit = shape.limits[usize::from(at > 0)];
+                let limit = shape.limits[usize::from(at % 3 > 0)];
                 if with == "the instruction" && best.0 > limit * best.1 {
                     println!("over the limit of {limit}");
                 }
@@ -128,7 +136,7 @@ fn tests_alone(lent: &Store<'_>) {
 pub fn by_extents() {
     println!("-- extents in another file: 1 MiB, 100 bytes, refusals 1 and 2, in us");
     for other in [10, 100, 1_000, 10_000, 100_000] {
-        let mut store = store(Extents { file: 10, other });
+        let mut store = store(extents(10, other, PLACES));
         let lent = lend(&mut store);
         let mut row = Vec::new();
         for shape in [&SHAPES[0], &SHAPES[4]] {

@@ -14,11 +14,13 @@ const BLOCKS: u64 = 65_536;
 const UNIT_BLOCKS: u64 = 16;
 const UUID: [u8; 16] = [7; 16];
 
-/// How many extents each of the two files has.
+/// How many extents each of the two files has, and places of the book of
+/// groups at least: a place has 1,073 bytes, which every call tests.
 #[derive(Clone, Copy)]
 pub struct Extents {
     pub file: u64,
     pub other: u64,
+    pub group_places: usize,
 }
 
 /// A store in which the files have so many extents, at shuffled places of the
@@ -26,6 +28,7 @@ pub struct Extents {
 /// extents than blocks, those of the other file share blocks, which refusal 2
 /// lets pass.
 pub fn store(extents: Extents) -> Store {
+    let group_places = extents.group_places;
     let mut random = Rng::new(9);
     let share = BLOCKS * 9 / 10;
     let (of_file, of_other) = if extents.other > extents.file {
@@ -79,7 +82,7 @@ pub fn store(extents: Extents) -> Store {
         BLOCKS,
         places(cards.len()),
         places(extents.len()),
-        places(groups as usize),
+        (2 * groups as usize).max(group_places),
     );
     for block in store.image.as_chunks_mut::<8>().0 {
         *block = random.next_u64().to_le_bytes();
