@@ -5,3 +5,9 @@ pub mod PartLaws
 pub mod CarryLaws
 pub mod LookUpLaws
 pub mod CallLaws
+pub mod FitLaws
+pub mod DataLaws
+pub mod OutLaws
+pub mod ReadyLaws
+pub mod PlanLaws
+pub mod TestLaws

@@ -1,3 +1,9 @@
 pub mod Change
 pub mod Flat
 pub mod LookUp
+pub mod Fit
+pub mod Room
+pub mod Books
+pub mod Out
+pub mod Planned
+pub mod Tests
