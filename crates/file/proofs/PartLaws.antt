@@ -33,6 +33,7 @@ use Rattle.book.specs.Places.{groupIs}
 use Rattle.mapping.specs.Entries.{entries}
 use Rattle.rewrite.specs.Plan.{laidUnit, laidUnits, keptBy}
 use Rattle.finish_extents.specs.Stretch.{Describes, Planned}
+use Rattle.finish_books.specs.Groups.{UnitsRight}
 use Rattle.file.specs.Flat.{flatBlocks, AllWhole, KeptIn, OldIn}
 use Rattle.file.proofs.FlatLaws.{flat-blocks}
 
@@ -198,22 +199,14 @@ units-small size m h = each-weaken (λ u l. omega (arith, m, l)) h
 
 -- ---- units one behind the other
 
--- units of which all but the first are consecutive, and the first's group is there where it lies further down
-abbrev pub InTurn : ℕ → List Group → List ℕ → Type 0
-InTurn object gs us =
-    (length us ≤ 18)
-    × (1 < length us → getD us 0 0 < getD us 1 0)
-    × ((k : ℕ) → 1 ≤ k → suc k < length us → getD us (suc k) 0 ≡ suc (getD us k 0))
-    × (1 < length us → (getD us 1 0 ≡ suc (getD us 0 0) → ⊥) → any (groupIs object (getD us 0 0 / groupUnits)) gs ≡ true)
-
 -- consecutive units
-pub in-turn-range : (object : ℕ) (gs : List Group) (f k : ℕ) (us : List ℕ) → us ≡ range f k → length us ≤ 18 → InTurn object gs us
-in-turn-range object gs f k us e w = (
-  w,
-  λ l. omega (arith, place 0 (omega (arith, l)), place 1 l),
-  λ j a l. omega (arith, place j (omega (arith, l)), place (suc j) l),
-  λ l n. absurd (n (omega (arith, place 0 (omega (arith, l)), place 1 l))),
-)
+pub units-right-range : (object : ℕ) (gs : List Group) (f k : ℕ) (us : List ℕ) → us ≡ range f k → length us ≤ 18 → UnitsRight object gs us
+units-right-range object gs f k us e w = record {
+  few = w;
+  rises = λ l. omega (arith, place 0 (omega (arith, l)), place 1 l);
+  next = λ j a l. omega (arith, place j (omega (arith, l)), place (suc j) l);
+  apart = λ l n. absurd (n (omega (arith, place 0 (omega (arith, l)), place 1 l)));
+}
   where
     place : (i : ℕ) → i < length us → getD us i 0 ≡ f + i
     place i l =
@@ -221,14 +214,14 @@ in-turn-range object gs f k us e w = (
         ap (λ (xs : List ℕ). getD xs i 0) e ∙ getD-range f k i 0 (omega (arith, c, l))
 
 -- such with another unit before them, whose group is there
-pub in-turn-tailed : (object : ℕ) (gs : List Group) (t f k : ℕ) (us : List ℕ) → us ≡ t ∷ range f k → length us ≤ 18 → ascending ltb us ≡ true
-    → any (groupIs object (t / groupUnits)) gs ≡ true → InTurn object gs us
-in-turn-tailed object gs t f k us e w a g = (
-  w,
-  λ l. ltb-true (getD us 0 0) (getD us 1 0) (ascending-at ltb us a 0 0 l),
-  steps,
-  λ l n. ap (λ (xs : List ℕ). any (groupIs object (getD xs 0 0 / groupUnits)) gs) e ∙ g,
-)
+pub units-right-tailed : (object : ℕ) (gs : List Group) (t f k : ℕ) (us : List ℕ) → us ≡ t ∷ range f k → length us ≤ 18 → ascending ltb us ≡ true
+    → any (groupIs object (t / groupUnits)) gs ≡ true → UnitsRight object gs us
+units-right-tailed object gs t f k us e w a g = record {
+  few = w;
+  rises = λ l. ltb-true (getD us 0 0) (getD us 1 0) (ascending-at ltb us a 0 0 l);
+  next = steps;
+  apart = λ l n. ap (λ (xs : List ℕ). any (groupIs object (getD xs 0 0 / groupUnits)) gs) e ∙ g;
+}
   where
     place : (i : ℕ) → suc i < length us → getD us (suc i) 0 ≡ f + i
     place i l =
