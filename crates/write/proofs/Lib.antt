@@ -1,0 +1,9 @@
+pub mod CarryLaws
+pub mod StepLaws
+pub mod BehindLaws
+pub mod ChangeLaws
+pub mod UnitsLaws
+pub mod FindLaws
+pub mod AnswerLaws
+pub mod WriteLaws
+pub mod GrowLaws

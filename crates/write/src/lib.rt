@@ -1,0 +1,17 @@
+// The calls write and grow, past refusals 1 and 2: their own tests, and the change that they make.
+//
+// A change is planned, it is decided whether the books that it leaves fit, and only then is anything stored.
+pub mod carry;
+pub mod change;
+pub mod find;
+pub mod grow;
+pub mod write;
+
+// Runs that the blocks of a unit form at most for it to keep any.
+pub const MOST_RUNS: usize = 4;
+
+// What a call answers: 0 and a count, or the number of its refusal and 0.
+pub struct Done {
+    pub number: u32,
+    pub count: u64,
+}
