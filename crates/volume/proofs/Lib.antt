@@ -2,3 +2,4 @@ pub mod MapLaws
 pub mod EnterLaws
 pub mod CallLaws
 pub mod ReadLaws
+pub mod WriteLaws

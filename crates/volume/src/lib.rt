@@ -13,9 +13,10 @@ ghost use mathlib.Core.Path.{_≡_};
 ghost use Rattle.rules.specs.Store.{lent};
 ghost use Rattle.rules.specs.Call.{call};
 ghost use Rattle.rules.specs.Call.Look.{read, fill};
-ghost use Rattle.rules.specs.Call.Call.{fresh, enter, settle, look};
+ghost use Rattle.rules.specs.Call.Call.{fresh, enter, write, grow, settle, look};
 ghost use Rattle.volume.specs.Call.{handed, gave};
 use format::sizes::BLOCK_BYTES;
+use write::MOST_RUNS;
 
 // A call's answer: 0 and a count, or the number of its refusal and 0.
 #[repr(C)]
@@ -124,6 +125,86 @@ pub extern "C" fn sangueko_enter(
         number: 0,
         count: 0,
     }
+}
+
+// Bytes written to a file from `offset` on, as many of them as a write takes. The count is their number; the file grows where they end past its end.
+#[no_mangle]
+pub extern "C" fn sangueko_write(
+    image: &mut [u8],
+    head: &mut [u8],
+    cards: &mut [u8],
+    extents: &mut [u8],
+    groups: &mut [u8],
+    used: &mut [u8],
+    retired: &mut [u8],
+    object: u64,
+    offset: u64,
+    bytes: &[u8],
+    seconds: u64,
+    nanoseconds: u64,
+) -> Answer
+    ensures { λ r. ⌜ gave (r .number) (r .count) (lent (now (image .exit)) (now (head .exit)) (now (cards .exit)) (now (extents .exit)) (now (groups .exit)) (now (used .exit)) (now (retired .exit))) ≡ call (write object offset (now (bytes .entry)) (record { seconds = seconds; nanoseconds = nanoseconds })) (lent (now (image .entry)) (now (head .entry)) (now (cards .entry)) (now (extents .entry)) (now (groups .entry)) (now (used .entry)) (now (retired .entry))) ⌝ }
+{
+    let number = intake::refused(image, head, cards, extents, groups, used, retired);
+    if number != 0 {
+        return Answer { number, count: 0 };
+    }
+    let done = write::write::write_file(
+        image,
+        head,
+        cards,
+        extents,
+        groups,
+        used,
+        retired,
+        MOST_RUNS,
+        object,
+        offset,
+        bytes,
+        seconds,
+        nanoseconds,
+    );
+    Answer {
+        number: done.number,
+        count: done.count,
+    }
+}
+
+// A file grown to `size` bytes, of which the new ones are zeros. The same size changes nothing, not even the time.
+#[no_mangle]
+pub extern "C" fn sangueko_grow(
+    image: &mut [u8],
+    head: &mut [u8],
+    cards: &mut [u8],
+    extents: &mut [u8],
+    groups: &mut [u8],
+    used: &mut [u8],
+    retired: &mut [u8],
+    object: u64,
+    size: u64,
+    seconds: u64,
+    nanoseconds: u64,
+) -> Answer
+    ensures { λ r. ⌜ gave (r .number) (r .count) (lent (now (image .exit)) (now (head .exit)) (now (cards .exit)) (now (extents .exit)) (now (groups .exit)) (now (used .exit)) (now (retired .exit))) ≡ call (grow object size (record { seconds = seconds; nanoseconds = nanoseconds })) (lent (now (image .entry)) (now (head .entry)) (now (cards .entry)) (now (extents .entry)) (now (groups .entry)) (now (used .entry)) (now (retired .entry))) ⌝ }
+{
+    let number = intake::refused(image, head, cards, extents, groups, used, retired);
+    if number != 0 {
+        return Answer { number, count: 0 };
+    }
+    let number = write::grow::grow_file(
+        image,
+        head,
+        cards,
+        extents,
+        groups,
+        used,
+        retired,
+        object,
+        size,
+        seconds,
+        nanoseconds,
+    );
+    Answer { number, count: 0 }
 }
 
 // A fresh store in the lent buffers, whatever they hold: no record, the first blocks reserved and used, none retired. The image stays.

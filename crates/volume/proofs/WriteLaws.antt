@@ -1,0 +1,44 @@
+-- From the tests and the inner calls of a write and a grow to the calls of the rules.
+-- Assumes nothing.
+use mathlib.Core.Path.{_≡_}
+use mathlib.Core.List.{List, []}
+use Prim.Native.Nat.{ℕ}
+use Rattle.rules.specs.Sizes.{mostRuns}
+use Rattle.rules.specs.Time.{Time}
+use Rattle.rules.specs.Store.{Store, StoreBytes}
+use Rattle.rules.specs.Refusal.{result}
+use Rattle.rules.specs.Write.{writeOutcome, growOutcome}
+use Rattle.rules.specs.Call.{call}
+use Rattle.rules.specs.Call.Call.{write, grow}
+use Rattle.intake.specs.Join.{storeNumber}
+use Rattle.write.specs.Call.{StoreReady, answered}
+use Rattle.volume.specs.Call.{gave}
+use Rattle.volume.proofs.CallLaws.{stopped, not-stopped}
+
+-- what the inner calls ask for
+pub store-ready : (s : Store) (n : ℕ) → n ≡ storeNumber s → n ≡ 0 → StoreBytes s → StoreReady s
+store-ready s n e z b = record { passes = not-stopped s n e z; lent-bytes = b }
+
+-- a write
+module _ (object offset : ℕ) (bytes : List ℕ) (time : Time) (s : Store) where
+  -- refusals 1 and 2
+  pub write-stopped : (n : ℕ) → n ≡ storeNumber s → (n ≡ 0 → ⊥) → gave n 0 s ≡ call (write object offset bytes time) s
+  unfolding call writeOutcome
+  write-stopped n e z = stopped s [] _ n e z
+
+  -- what it gives
+  pub write-gives : (number count : ℕ) (t : Store) → answered number count t ≡ result s [] (writeOutcome mostRuns object offset bytes time s) → gave number count t ≡ call (write object offset bytes time) s
+  unfolding call
+  write-gives number count t e = e
+
+-- a grow
+module _ (object size : ℕ) (time : Time) (s : Store) where
+  -- refusals 1 and 2
+  pub grow-stopped : (n : ℕ) → n ≡ storeNumber s → (n ≡ 0 → ⊥) → gave n 0 s ≡ call (grow object size time) s
+  unfolding call growOutcome
+  grow-stopped n e z = stopped s [] _ n e z
+
+  -- what it gives
+  pub grow-gives : (number : ℕ) (t : Store) → answered number 0 t ≡ result s [] (growOutcome object size time s) → gave number 0 t ≡ call (grow object size time) s
+  unfolding call
+  grow-gives number t e = e
