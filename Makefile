@@ -9,7 +9,7 @@ demo:
 test:
 	.ci/run
 
-# A million random calls through the library, document 01's model and the published Rust, with progress.
+# A million random calls through the library, document 01's model and the published Rust, and as many against plain arrays, with progress.
 compare:
 	rt staticlib volume
 	cargo run --release --offline --quiet --manifest-path host/sangueko/Cargo.toml --example compare -- --calls 1000000

@@ -13,11 +13,18 @@
  *   retired  the same
  *
  * The three books (cards, extents, groups) have 0 to SANGUEKO_MOST_PLACES places each. The caller chooses the lengths once, calls sangueko_fresh, and
- * lends buffers of the same lengths from then on; the buffers, kept as they are, are the store. sangueko_enter adds a file.
+ * lends buffers of the same lengths from then on; the buffers, kept as they are, are the store. sangueko_enter adds a file, sangueko_write and
+ * sangueko_grow change it, sangueko_read gives its bytes.
  *
  * A call answers a number and a count. Number 0: it did its work, and the count is its answer. Any other number is one of enum sangueko_refusal: the
- * call was refused, its count is 0 and no byte of any buffer has changed. A call tries its refusals in the order of their numbers and gives the first
- * that applies. It takes any bytes, lengths and numbers whatever: what it cannot work on it refuses.
+ * call was refused, its count is 0 and no byte of any buffer has changed. A call tries its refusals in the order of their numbers, 9 to 14 unit by
+ * unit, and gives the first that applies. It takes any bytes, lengths and numbers whatever: what it cannot work on it refuses.
+ *
+ * Proved. Of each call one equation is proved: its number, its count and every byte of the buffers after it are those that the rules give
+ * (crates/rules). Of the rules, and so by the equations of these calls, one theorem is proved about every list of calls on a store that
+ * sangueko_fresh made (crates/history): reads that are accepted give the bytes that plain arrays would hold after the same calls, every block is
+ * reserved, free, retired or at one place of one file, every file's count of blocks is right, and refusals 2, 9 to 12 and 14 never come. Of buffers
+ * that something else has changed the theorem says nothing; a call does with them what its equation says.
  *
  * Pointers. A buffer that a call takes as `const` is only read. The others must not overlap any other buffer of the same call. No alignment is asked
  * for. The pointer of an empty buffer may be any that is not null.
@@ -25,7 +32,7 @@
  * Threads. The library keeps no state and allocates nothing. Calls may run at the same time in any threads on stores that do not overlap, and on one
  * store where all of them take its buffers as `const`.
  *
- * Stack. No call takes more than SANGUEKO_STACK_BYTES of stack, what the dynamic linker may take to find memset the first time left aside.
+ * Stack. No call takes more than SANGUEKO_STACK_BYTES of stack, what the dynamic linker may take to find memcpy or memset the first time left aside.
  */
 #ifndef SANGUEKO_H
 #define SANGUEKO_H
@@ -54,16 +61,13 @@ extern "C" {
 #define SANGUEKO_MOST_BLOCKS 65536
 #define SANGUEKO_MOST_PLACES 1048575
 
-/* Bytes that one read takes at most. */
+/* Bytes that one write or read takes at most. */
 #define SANGUEKO_MOST_TRANSFER 1048576
 
 /* Stack that a call takes at most. */
-#define SANGUEKO_STACK_BYTES 65536
+#define SANGUEKO_STACK_BYTES 262144
 
-/*
- * Why a call was refused. The calls below give 1 to 4 and 7 to 12; the other numbers are those of writing and growing, which this archive does not
- * have yet.
- */
+/* Why a call was refused. A unit is 64 KiB of a file, from a multiple of that on; each unit that holds data has a checksum. */
 enum sangueko_refusal {
     /* A buffer's length is wrong, or the head does not fit the lengths: it counts other blocks than the image's, more records than there are places, or
      * more reserved blocks than blocks. sangueko_fresh does not read the head; it tries the uuid's length and the reserved blocks that it is given. */
@@ -135,6 +139,43 @@ struct sangueko_answer sangueko_enter(
     const uint8_t *used, size_t used_len,
     const uint8_t *retired, size_t retired_len,
     uint64_t object, uint64_t seconds, uint64_t nanoseconds);
+
+/*
+ * Writes `bytes` into the file from `offset` on, over what was there: all of them, or the first SANGUEKO_MOST_TRANSFER. Past its end the file grows,
+ * and what lies between reads as zeros. Its time becomes the one given. New bytes go to free blocks; the blocks whose place they take stay used, as
+ * retired ones, until sangueko_settle. Empty `bytes` change nothing, not even the time.
+ * Count: the bytes taken; the rest is left to another call. 0 where `bytes` is empty. Refused, in this order, by 1, 2, 3 (no such file), 5 (where
+ * the bytes that are taken end), 7 (the time), unit by unit by 9 to 12 (if old bytes of it stay) and by 13 and 14, and at last by 15 and 16. Empty
+ * `bytes` are refused by 1, 2 and 3 alone.
+ */
+struct sangueko_answer sangueko_write(
+    uint8_t *image, size_t image_len,
+    uint8_t *head, size_t head_len,
+    uint8_t *cards, size_t cards_len,
+    uint8_t *extents, size_t extents_len,
+    uint8_t *groups, size_t groups_len,
+    uint8_t *used, size_t used_len,
+    uint8_t *retired, size_t retired_len,
+    uint64_t object, uint64_t offset,
+    const uint8_t *bytes, size_t bytes_len,
+    uint64_t seconds, uint64_t nanoseconds);
+
+/*
+ * Makes the file `size` bytes long. The new bytes read as zeros; only those in the unit that the file ended in take blocks. Its time becomes the one
+ * given. Its present size changes nothing, not even the time; files do not shrink.
+ * Count: 0. Refused, in this order, by 1, 2, 3 (no such file), 5 (the size), 6 (a smaller size); where the size changes, by 7 (the time) and, if the
+ * file ended within a unit that has data, by 9 to 14 on that unit, 15 and 16.
+ */
+struct sangueko_answer sangueko_grow(
+    uint8_t *image, size_t image_len,
+    uint8_t *head, size_t head_len,
+    uint8_t *cards, size_t cards_len,
+    uint8_t *extents, size_t extents_len,
+    uint8_t *groups, size_t groups_len,
+    uint8_t *used, size_t used_len,
+    uint8_t *retired, size_t retired_len,
+    uint64_t object, uint64_t size,
+    uint64_t seconds, uint64_t nanoseconds);
 
 /*
  * Lets the retired blocks go: those that files have given up, but that stay used until this call. They are free afterwards.

@@ -1,10 +1,12 @@
 /*
  * How much stack each call takes: it runs on a stack filled with one byte, and the lowest byte that changed is sought. The store has a file with a
- * block and a checksum, so that every test is made. Exits with 1 where a call takes more than the header says.
+ * block and a checksum, so that every test is made; write and grow keep old bytes and fill a unit. Exits with 1 where a call takes more than the header
+ * says.
  */
 #define _XOPEN_SOURCE 700
 #define _DEFAULT_SOURCE
 
+#include "checksum.h"
 #include "sangueko.h"
 
 #include <pthread.h>
@@ -13,16 +15,17 @@
 #include <string.h>
 #include <sys/mman.h>
 
-#define STACK (256 * 1024)
+#define STACK (2 * SANGUEKO_STACK_BYTES)
 #define PAINT 0x5a
+#define BLOCKS 64
 
-static uint8_t image[8 * SANGUEKO_BLOCK_BYTES];
+static uint8_t image[BLOCKS * SANGUEKO_BLOCK_BYTES];
 static uint8_t head[SANGUEKO_HEAD_BYTES];
 static uint8_t cards[4 * SANGUEKO_CARD_BYTES];
 static uint8_t extents[4 * SANGUEKO_EXTENT_BYTES];
 static uint8_t groups[2 * SANGUEKO_GROUP_BYTES];
-static uint8_t used[SANGUEKO_MAP_BYTES(8)];
-static uint8_t retired[SANGUEKO_MAP_BYTES(8)];
+static uint8_t used[SANGUEKO_MAP_BYTES(BLOCKS)];
+static uint8_t retired[SANGUEKO_MAP_BYTES(BLOCKS)];
 static const uint8_t uuid[SANGUEKO_UUID_BYTES] = { 1 };
 
 #define LENT                                                                                                                       \
@@ -55,28 +58,17 @@ static struct sangueko_answer read_file(void)
     return sangueko_read(LENT, 7, 0, out, sizeof out);
 }
 
-/* The checksum's register after one more byte. */
-static uint32_t feed(uint32_t crc, uint8_t byte)
+/* Most of unit 0, and some of unit 1. */
+static struct sangueko_answer write_file(void)
 {
-    crc ^= byte;
-    for (int bit = 0; bit < 8; bit++)
-        crc = crc >> 1 ^ (crc & 1 ? 0x82f63b78 : 0);
-    return crc;
+    static const uint8_t bytes[70000] = { 3 };
+    return sangueko_write(LENT, 7, SANGUEKO_BLOCK_BYTES - 10, bytes, sizeof bytes, 1, 2);
 }
 
-/* The checksum of unit 0 of file 7, which has `len` valid bytes. */
-static uint32_t unit_checksum(const uint8_t *bytes, uint32_t len)
+/* All of unit 0, and some of unit 1. */
+static struct sangueko_answer grow_file(void)
 {
-    uint32_t crc = UINT32_MAX;
-    for (size_t i = 0; i < sizeof uuid; i++)
-        crc = feed(crc, uuid[i]);
-    for (int i = 0; i < 16; i++)
-        crc = feed(crc, i == 7 ? 7 : 0);
-    for (int i = 24; i >= 0; i -= 8)
-        crc = feed(crc, (uint8_t)(len >> i));
-    for (uint32_t i = 0; i < len; i++)
-        crc = feed(crc, bytes[i]);
-    return ~crc;
+    return sangueko_grow(LENT, 7, 70000, 1, 2);
 }
 
 /* A store of file 7 with one block, its checksum, and a retired block. */
@@ -85,12 +77,13 @@ static void prepare(void)
     sangueko_fresh(LENT, uuid, sizeof uuid, 1);
     sangueko_enter(LENT, 7, 0, 0);
     cards[14] = 0x20; /* size 4,096: 63 bits from byte 8 on */
+    cards[20] = 0x40; /* one block: 35 bits behind them */
     extents[7] = groups[7] = 7;
     extents[8] = 3;
     extents[17] = extents[25] = 1; /* from block 1 on, one block */
     groups[8] = 4;
     groups[17] = 1; /* slot 0 */
-    uint32_t crc = unit_checksum(image + SANGUEKO_BLOCK_BYTES, SANGUEKO_BLOCK_BYTES);
+    uint32_t crc = unit_checksum(uuid, 7, 0, image + SANGUEKO_BLOCK_BYTES, SANGUEKO_BLOCK_BYTES);
     for (int i = 0; i < 4; i++)
         groups[49 + i] = (uint8_t)(crc >> 8 * i);
     head[25] |= 0x10; /* one extent */
@@ -141,8 +134,8 @@ int main(void)
         const char *name;
         struct sangueko_answer (*call)(void);
         uint64_t count;
-    } calls[] = { { "fresh", fresh, 0 }, { "enter", enter, 0 }, { "settle", settle, 1 }, { "fill", fill, 375 },
-                  { "read", read_file, SANGUEKO_BLOCK_BYTES } };
+    } calls[] = { { "fresh", fresh, 0 }, { "enter", enter, 0 }, { "settle", settle, 1 }, { "fill", fill, 46 },
+                  { "read", read_file, SANGUEKO_BLOCK_BYTES }, { "write", write_file, 70000 }, { "grow", grow_file, 0 } };
     int failed = 0;
     printf("stack:");
     for (size_t i = 0; i < sizeof calls / sizeof calls[0]; i++) {

@@ -1,10 +1,11 @@
 /*
- * The library from C: a store of 8 blocks with 1 reserved, a file, and each refusal that the calls give. A buffer that a call takes as `const`, and
- * every buffer of a call that is to be refused, stands in pages that cannot be written meanwhile: a write there ends the program. Exits with 1 at any
- * difference.
+ * The library from C: a store of 8 blocks with 1 reserved, a file that is written and grown, and each refusal that the calls give. A buffer that a call
+ * takes as `const`, and every buffer of a call that is to be refused, stands in pages that cannot be written meanwhile: a write there ends the program.
+ * Every byte of the store is compared after each change. Exits with 1 at any difference.
  */
 #define _DEFAULT_SOURCE
 
+#include "checksum.h"
 #include "sangueko.h"
 
 #include <stdio.h>
@@ -109,6 +110,20 @@ static struct sangueko_answer read_at(struct store *s, uint64_t object, uint64_t
     return sangueko_read(LENT(s), object, offset, out, len);
 }
 
+/* What is written, in pages that cannot be. */
+#define BYTES 40000
+static uint8_t *bytes;
+
+static struct sangueko_answer write_at(struct store *s, uint64_t object, uint64_t offset, size_t len, uint64_t seconds, uint64_t nanoseconds)
+{
+    return sangueko_write(LENT(s), object, offset, bytes, len, seconds, nanoseconds);
+}
+
+static struct sangueko_answer grow(struct store *s, uint64_t object, uint64_t size, uint64_t seconds, uint64_t nanoseconds)
+{
+    return sangueko_grow(LENT(s), object, size, seconds, nanoseconds);
+}
+
 static void accepted(const char *what, struct sangueko_answer answer, uint64_t count)
 {
     if (answer.number != 0 || answer.count != count) {
@@ -163,6 +178,8 @@ static void refusals(struct store *s, uint8_t *kept[BUFFERS])
         refused("enter, a buffer one byte short", enter(s, 8, 0, 0), SANGUEKO_WRONG_LENGTH);
         refused("settle, a buffer one byte short", sangueko_settle(LENT(s)), SANGUEKO_WRONG_LENGTH);
         refused("fill, a buffer one byte short", sangueko_fill(LENT(s)), SANGUEKO_WRONG_LENGTH);
+        refused("write, a buffer one byte short", write_at(s, 7, 0, 1, 0, 0), SANGUEKO_WRONG_LENGTH);
+        refused("grow, a buffer one byte short", grow(s, 7, 1, 0, 0), SANGUEKO_WRONG_LENGTH);
         refused("read, a buffer one byte short", read_at(s, 7, 0, sizeof out), SANGUEKO_WRONG_LENGTH);
         EXPECT("read, a buffer one byte short", all(out, sizeof out, 0x77));
         s->len[i]++;
@@ -175,6 +192,18 @@ static void refusals(struct store *s, uint8_t *kept[BUFFERS])
     refused("enter, too many seconds", enter(s, 9, most + 1, 0), SANGUEKO_BAD_TIME);
     refused("enter, too many nanoseconds", enter(s, 9, most, 1000000000), SANGUEKO_BAD_TIME);
     refused("enter, no place", enter(s, 9, most, 999999999), SANGUEKO_NO_CARD_PLACE);
+
+    /* 3 before 5 before 7 */
+    refused("write, no such file", write_at(s, 9, most, 1, most + 1, 0), SANGUEKO_NO_CARD);
+    refused("write of nothing, no such file", write_at(s, 9, 0, 0, 0, 0), SANGUEKO_NO_CARD);
+    refused("write, past the limit", write_at(s, 7, most - 1, 2, most + 1, 0), SANGUEKO_PAST_LIMIT);
+    refused("write, too many seconds", write_at(s, 7, most - 1, 1, most + 1, 0), SANGUEKO_BAD_TIME);
+    refused("write, too many nanoseconds", write_at(s, 7, 0, 1, most, 1000000000), SANGUEKO_BAD_TIME);
+    refused("write, too few blocks", write_at(s, 7, 0, 7 * SANGUEKO_BLOCK_BYTES + 1, most, 999999999), SANGUEKO_NO_SPACE);
+    refused("grow, no such file", grow(s, 9, most + 1, most + 1, 0), SANGUEKO_NO_CARD);
+    refused("grow, past the limit", grow(s, 7, most + 1, most + 1, 0), SANGUEKO_PAST_LIMIT);
+    refused("grow, too many seconds", grow(s, 7, most, most + 1, 0), SANGUEKO_BAD_TIME);
+    refused("grow, too many nanoseconds", grow(s, 7, 1, most, 1000000000), SANGUEKO_BAD_TIME);
 
     refused("read, no such file", read_at(s, 9, 0, sizeof out), SANGUEKO_NO_CARD);
     EXPECT("read, no such file", all(out, sizeof out, 0x77));
@@ -192,6 +221,8 @@ static void broken(struct store *s, uint8_t *kept[BUFFERS])
     refused("enter, a broken rule", enter(s, 7, 0, 0), SANGUEKO_BROKEN_RULE);
     refused("settle, a broken rule", sangueko_settle(LENT(s)), SANGUEKO_BROKEN_RULE);
     refused("fill, a broken rule", sangueko_fill(LENT(s)), SANGUEKO_BROKEN_RULE);
+    refused("write, a broken rule", write_at(s, 9, 0, 0, 0, 0), SANGUEKO_BROKEN_RULE);
+    refused("grow, a broken rule", grow(s, 9, 0, 0, 0), SANGUEKO_BROKEN_RULE);
     refused("read, a broken rule", read_at(s, 7, 0, sizeof out), SANGUEKO_BROKEN_RULE);
     open_all(s);
     unchanged("a broken rule", s, kept);
@@ -231,6 +262,175 @@ static void reads(struct store *s, uint8_t *kept[BUFFERS])
     s->at[CARD][15] = 0;
 }
 
+/* A field of so many bits, most significant first, from a bit on. */
+static void put_bits(uint8_t *at, unsigned from, unsigned width, uint64_t value)
+{
+    for (unsigned i = 0; i < width; i++) {
+        unsigned bit = from + i;
+        at[bit / 8] &= (uint8_t)~(0x80 >> bit % 8);
+        if (value >> (width - 1 - i) & 1)
+            at[bit / 8] |= (uint8_t)(0x80 >> bit % 8);
+    }
+}
+
+/* The records of file 7 as they are to be: its card is the second of two. */
+static void expect_card(uint8_t *kept[BUFFERS], uint64_t size, uint64_t blocks, uint64_t seconds, uint64_t nanoseconds)
+{
+    uint8_t *card = kept[CARD] + SANGUEKO_CARD_BYTES;
+    put_bits(card, 64, 63, size);
+    put_bits(card, 127, 35, blocks);
+    put_bits(card, 162, 63, seconds);
+    put_bits(card, 225, 30, nanoseconds);
+}
+
+struct run {
+    uint8_t logical, physical, count;
+};
+
+static void expect_extents(uint8_t *kept[BUFFERS], const struct run *runs, uint8_t n)
+{
+    memset(kept[EXTENT], 0, lengths[EXTENT]);
+    for (uint8_t i = 0; i < n; i++) {
+        uint8_t *extent = kept[EXTENT] + i * SANGUEKO_EXTENT_BYTES;
+        extent[7] = 7; /* the file, most significant byte first */
+        extent[8] = 3;
+        extent[16] = runs[i].logical;
+        extent[17] = runs[i].physical; /* least significant byte first */
+        extent[25] = runs[i].count;
+    }
+    put_bits(kept[HEAD], 184, 20, n);
+}
+
+/* Its one group, with a checksum for unit 0, whose first `len` bytes are the file. */
+static void expect_group(uint8_t *kept[BUFFERS], const uint8_t *file, uint32_t len)
+{
+    uint8_t *group = kept[GROUP];
+    uint32_t crc = unit_checksum(uuid, 7, 0, file, len);
+    memset(group, 0, lengths[GROUP]);
+    group[7] = 7;
+    group[8] = 4;
+    group[17] = 1;
+    for (int i = 0; i < 4; i++)
+        group[49 + i] = (uint8_t)(crc >> 8 * i);
+    put_bits(kept[HEAD], 204, 20, 1);
+}
+
+/* A block of the image as it is to be. */
+static void expect_block(uint8_t *kept[BUFFERS], unsigned block, const uint8_t *file, unsigned logical)
+{
+    memcpy(kept[IMAGE] + block * SANGUEKO_BLOCK_BYTES, file + logical * SANGUEKO_BLOCK_BYTES, SANGUEKO_BLOCK_BYTES);
+}
+
+/* The file, read whole in pieces of the output, is these bytes. */
+static void reads_as(const char *what, struct store *s, const uint8_t *file, size_t len)
+{
+    for (size_t at = 0; at < len; at += sizeof out) {
+        size_t n = len - at < sizeof out ? len - at : sizeof out;
+        accepted(what, read_at(s, 7, at, sizeof out), n);
+        EXPECT(what, memcmp(out, file + at, n) == 0 && all(out + n, sizeof out - n, 0x77));
+    }
+}
+
+/* A write of a byte and a grow of file 7, of 20,000 bytes, that are both refused, and change nothing. */
+static void both_refused(const char *what, struct store *s, uint8_t *kept[BUFFERS], enum sangueko_refusal number)
+{
+    keep(s, kept);
+    close_all(s);
+    refused(what, write_at(s, 7, 1, 1, 0, 0), number);
+    refused(what, grow(s, 7, 20001, 0, 0), number);
+    open_all(s);
+    unchanged(what, s, kept);
+}
+
+/* File 7 written and grown as in document 01's program `layout`, and the refusals that its records bring about. */
+static void changes(struct store *s, uint8_t *kept[BUFFERS])
+{
+    static uint8_t file[5 * SANGUEKO_BLOCK_BYTES]; /* zeros past its end */
+    open_all(s);
+    keep(s, kept);
+
+    accepted("write 9,000", write_at(s, 7, 0, 9000, 10, 20), 9000);
+    memcpy(file, bytes, 9000);
+    expect_card(kept, 9000, 3, 10, 20);
+    expect_extents(kept, (const struct run[]){ { 0, 1, 3 } }, 1);
+    expect_group(kept, file, 9000);
+    for (unsigned i = 0; i < 3; i++)
+        expect_block(kept, 1 + i, file, i);
+    kept[USED][0] = 0x0f;
+    unchanged("write 9,000", s, kept);
+    reads_as("write 9,000", s, file, 9000);
+
+    close_all(s);
+    accepted("write of nothing", write_at(s, 7, UINT64_MAX, 0, UINT64_MAX, UINT64_MAX), 0);
+    accepted("grow to the same size", grow(s, 7, 9000, UINT64_MAX, UINT64_MAX), 0);
+    refused("grow to less", grow(s, 7, 8999, UINT64_MAX, 0), SANGUEKO_BELOW_SIZE);
+    open_all(s);
+    unchanged("calls that change nothing", s, kept);
+
+    /* block 0 of the file stays where it is; the last is not full, and does not */
+    accepted("write 10", write_at(s, 7, 5000, 10, 11, 21), 10);
+    memcpy(file + 5000, bytes, 10);
+    expect_card(kept, 9000, 3, 11, 21);
+    expect_extents(kept, (const struct run[]){ { 0, 1, 1 }, { 1, 4, 2 } }, 2);
+    expect_group(kept, file, 9000);
+    expect_block(kept, 4, file, 1);
+    expect_block(kept, 5, file, 2);
+    kept[USED][0] = 0x3f;
+    kept[RETIRED][0] = 0x0c;
+    unchanged("write 10", s, kept);
+    reads_as("write 10", s, file, 9000);
+
+    close_all(s);
+    refused("grow, too few blocks", grow(s, 7, 20000, 12, 22), SANGUEKO_NO_SPACE);
+    refused("write, too few blocks", write_at(s, 7, 9000, 11000, 12, 22), SANGUEKO_NO_SPACE);
+    open_all(s);
+    unchanged("too few blocks", s, kept);
+
+    accepted("settle", sangueko_settle(LENT(s)), 2);
+    accepted("grow to 20,000", grow(s, 7, 20000, 12, 22), 0);
+    expect_card(kept, 20000, 5, 12, 22);
+    expect_extents(kept, (const struct run[]){ { 0, 1, 1 }, { 1, 4, 1 }, { 2, 2, 2 }, { 4, 6, 1 } }, 4);
+    expect_group(kept, file, 20000);
+    expect_block(kept, 2, file, 2);
+    expect_block(kept, 3, file, 3);
+    expect_block(kept, 6, file, 4);
+    kept[USED][0] = 0x7f;
+    kept[RETIRED][0] = 0x20;
+    unchanged("grow to 20,000", s, kept);
+    reads_as("grow to 20,000", s, file, 20000);
+    accepted("fill, seven used", sangueko_fill(LENT(s)), 875);
+
+    close_all(s);
+    refused("write, no place for a group", write_at(s, 5, 0, 1, 0, 0), SANGUEKO_NO_GROUP_PLACE);
+    open_all(s);
+    accepted("settle", sangueko_settle(LENT(s)), 1);
+    kept[USED][0] = 0x5f;
+    kept[RETIRED][0] = 0;
+    close_all(s);
+    refused("write, no place for an extent", write_at(s, 7, 3 * SANGUEKO_BLOCK_BYTES, 1, 0, 0), SANGUEKO_NO_EXTENT_PLACE);
+    open_all(s);
+    unchanged("no places", s, kept);
+
+    /* a count of no blocks */
+    uint8_t *card = s->at[CARD] + SANGUEKO_CARD_BYTES;
+    put_bits(card, 127, 35, 0);
+    both_refused("a wrong count", s, kept, SANGUEKO_COUNT_DISAGREES);
+    put_bits(card, 127, 35, 5);
+
+    /* a byte of the file, and one past its end in its last block */
+    s->at[IMAGE][4 * SANGUEKO_BLOCK_BYTES] ^= 1;
+    both_refused("a changed byte", s, kept, SANGUEKO_CHECKSUM_DIFFERS);
+    s->at[IMAGE][6 * SANGUEKO_BLOCK_BYTES + 20000 % SANGUEKO_BLOCK_BYTES] ^= 1;
+    both_refused("a byte past the end", s, kept, SANGUEKO_NONZERO_PAST_END);
+
+    /* its last block not mapped, and then no checksum */
+    memset(s->at[EXTENT] + 3 * SANGUEKO_EXTENT_BYTES, 0, SANGUEKO_EXTENT_BYTES);
+    put_bits(s->at[HEAD], 184, 20, 3);
+    both_refused("a block that is not there", s, kept, SANGUEKO_NOT_BACKED);
+    memset(s->at[GROUP] + 17, 0, SANGUEKO_GROUP_BYTES - 17);
+    both_refused("no checksum", s, kept, SANGUEKO_NO_CHECKSUM);
+}
+
 /* The books may have no place: any pointer that is not null will do. */
 static void no_places(struct store *s)
 {
@@ -243,6 +443,8 @@ static void no_places(struct store *s)
     accepted("fill, no places", sangueko_fill(LENT(&bare)), 1000);
     accepted("settle, no places", sangueko_settle(LENT(&bare)), 0);
     refused("enter, no places", enter(&bare, 7, 0, 0), SANGUEKO_NO_CARD_PLACE);
+    refused("write, no places", write_at(&bare, 7, 0, 1, 0, 0), SANGUEKO_NO_CARD);
+    refused("grow, no places", grow(&bare, 7, 1, 0, 0), SANGUEKO_NO_CARD);
 }
 
 int main(void)
@@ -254,6 +456,13 @@ int main(void)
         s.len[i] = lengths[i];
         kept[i] = pages(lengths[i]);
         memset(s.at[i], 0xa5, lengths[i]);
+    }
+    bytes = pages(BYTES);
+    for (size_t i = 0; i < BYTES; i++)
+        bytes[i] = (uint8_t)(i * 7 + i / 256 + 1);
+    if (mprotect(bytes, BYTES, PROT_READ) != 0) {
+        perror("mprotect");
+        return 2;
     }
 
     /* a fresh store in buffers of anything */
@@ -304,12 +513,13 @@ int main(void)
     reads(&s, kept);
     broken(&s, kept);
     accepted("fill at the end", sangueko_fill(LENT(&s)), 125);
+    changes(&s, kept);
     no_places(&s);
 
     if (differences != 0) {
         printf("store: %d differences\n", differences);
         return 1;
     }
-    printf("store: fresh, enter, settle, fill and read as asked; refusals 1 to 4 and 7 to 9 change nothing\n");
+    printf("store: the seven calls as asked; each of the sixteen refusals changes nothing\n");
     return 0;
 }

@@ -25,7 +25,7 @@ use Rattle.rewrite.specs.declared.Change as numbers
 use Rattle.file.specs.Change.{numbered}
 use Rattle.file.specs.Tests.{growNumber}
 use Rattle.file.proofs.CallLaws as calls
-use Rattle.write.specs.Change.{ChangeReady, changed}
+use Rattle.change.specs.Change.{ChangeReady, changed}
 use Rattle.write.specs.Call.{StoreReady, FileFound, FileReady, TimeFits, answered, growOf, grown}
 use Rattle.write.proofs.UnitsLaws.{units-grow}
 use Rattle.write.proofs.FindLaws.{card-missing, card-known, card-object}

@@ -1,7 +1,3 @@
-pub mod CarryLaws
-pub mod StepLaws
-pub mod BehindLaws
-pub mod ChangeLaws
 pub mod UnitsLaws
 pub mod FindLaws
 pub mod AnswerLaws

@@ -14,8 +14,8 @@ use Rattle.rules.specs.Units.{Change, changeEnd, partialTail, writeUnits, growU
 use Rattle.rules.proofs.ListLaws.{if-cases, length-range, getD-range, each-none, each-more}
 use Rattle.kept.proofs.UnitsLaws.{Shape, write-shape, touched-few, write-ascending, write-within}
 use Rattle.kept.proofs.UnitsLaws.Shape.{bare, tailed as behind}
-use Rattle.write.specs.Change.{Lie, ChangeUnits}
-use Rattle.write.specs.Change.Lie.{run, tailed}
+use Rattle.change.specs.Change.{Lie, ChangeUnits}
+use Rattle.change.specs.Change.Lie.{run, tailed}
 use Rattle.write.specs.Call.{growOf}
 
 -- ---- a write

@@ -1,3 +1,1 @@
-pub mod Change
-pub mod Carry
 pub mod Call

@@ -40,7 +40,7 @@ fn grow_to(
         offset: 0,
         len: 0,
     };
-    super::change::change_file(
+    change::change_file(
         image,
         head,
         cards,

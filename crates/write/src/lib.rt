@@ -1,8 +1,4 @@
 // The calls write and grow, past refusals 1 and 2: their own tests, and the change that they make.
-//
-// A change is planned, it is decided whether the books that it leaves fit, and only then is anything stored.
-pub mod carry;
-pub mod change;
 pub mod find;
 pub mod grow;
 pub mod write;

@@ -55,7 +55,7 @@ fn write_taken(
         offset,
         len,
     };
-    super::change::change_file(
+    change::change_file(
         image,
         head,
         cards,

@@ -2,6 +2,8 @@
 //! over that of file.rs on a mounted store, with the processor's checksum
 //! instruction and with slicing by 8. The calls here test the whole store each
 //! time, which the Rust does not; what that costs is shown apart.
+//!
+//! `bench [reads] [writes] [extents]`: those parts, or all of them.
 
 mod checksum;
 #[path = "../../probe/src/bin/bench/measure.rs"]
@@ -9,12 +11,76 @@ mod checksum;
 mod measure;
 mod reads;
 mod stores;
+mod writes;
+
+use std::hint::black_box;
+use std::time::Duration;
+
+use model::Store;
+use oracle::Mounted;
+
+use crate::measure::alone;
+use crate::stores::{PLACES, STORES, extents, lend, store};
+
+const ROUNDS: u32 = 30;
+const SPAN: Duration = Duration::from_millis(4);
+const MIB: usize = 1 << 20;
 
 fn main() {
     if !oracle::AVAILABLE {
         println!("no carryfs source: nothing to compare with");
         return;
     }
-    reads::compared();
-    reads::by_extents();
+    let asked: Vec<String> = std::env::args().skip(1).collect();
+    let part = |name: &str| asked.is_empty() || asked.iter().any(|asked| asked == name);
+    for (on, shape, many) in STORES {
+        if !part("reads") && !part("writes") {
+            break;
+        }
+        println!("-- {on}");
+        let mut store = store(shape);
+        let tests = tests_alone(&mut store) * 1e6;
+        println!("{:<66} {tests:>8.2} us", "of each call, refusals 1 and 2");
+        let mut mounted = Mounted::new(&store);
+        if part("reads") {
+            reads::compared(&mut store, &mut mounted, many);
+        }
+        if part("writes") {
+            writes::compared(&mut store, &mut mounted, many);
+        }
+    }
+    if part("extents") {
+        by_extents();
+    }
+}
+
+/// Says where the Rust has the instruction and our time is over the limit.
+fn over(with: &str, limit: f64, (ours, theirs): (f64, f64)) {
+    if with == "the instruction" && ours > limit * theirs {
+        println!("over the limit of {limit}");
+    }
+}
+
+/// What refusals 1 and 2 cost on a store: the call fill adds only a count of bits.
+fn tests_alone(store: &mut Store) -> f64 {
+    let lent = lend(store);
+    alone(ROUNDS, SPAN, || {
+        let _ = black_box(black_box(&lent).fill());
+    })
+}
+
+/// The same calls over stores of more and more extents: what they cost beside
+/// the tests of the store.
+fn by_extents() {
+    println!(
+        "-- extents in another file: read 1 MiB, 100 bytes, write 1 MiB, 4 KiB, refusals 1 and 2, in us"
+    );
+    for other in [10, 100, 1_000, 10_000, 100_000] {
+        let mut store = store(extents(10, other, PLACES));
+        let mut row = reads::ours(&mut store).to_vec();
+        row.extend(writes::ours(&mut store));
+        row.push(tests_alone(&mut store));
+        let row: Vec<String> = row.iter().map(|t| format!("{:>10.2}", t * 1e6)).collect();
+        println!("{other:>8} {}", row.join(" "));
+    }
 }

@@ -3,21 +3,13 @@
 //! not stand in the processor's caches.
 
 use std::hint::black_box;
-use std::time::Duration;
 
-use model::crc32c::unit_checksum;
+use model::{Store, UNIT_BYTES};
 use oracle::{Mounted, compute_checksums_by};
-use random::Rng;
-use sangueko::Store;
 
-use crate::checksum::by_instruction;
 use crate::measure::{alone, pair, times};
-use crate::stores::{Extents, OBJECT, store};
-
-const ROUNDS: u32 = 30;
-const SPAN: Duration = Duration::from_millis(4);
-const MIB: usize = 1 << 20;
-const UNIT: u64 = 65_536;
+use crate::stores::{CHECKSUMS, OBJECT, lend, places};
+use crate::{MIB, ROUNDS, SPAN, over};
 
 /// How a read is asked for, and what our time over that of the Rust with the
 /// instruction may be at most, with few extents and with 10,000.
@@ -52,134 +44,53 @@ const fn shape(name: &'static str, length: usize, within: u64, places: usize) ->
     }
 }
 
-/// Places of each book at least, the groups' too.
-const PLACES: usize = 1_024;
-
-const STORES: [(&str, Extents); 6] = [
-    ("10 extents", extents(10, 1, PLACES)),
-    ("10,000 extents", extents(10_000, 1, PLACES)),
-    ("10,000 in another file", extents(10, 10_000, PLACES)),
-    ("10 extents, few places for groups", extents(10, 1, 0)),
-    (
-        "10,000 extents, few places for groups",
-        extents(10_000, 1, 0),
-    ),
-    (
-        "10,000 in another file, few places for groups",
-        extents(10, 10_000, 0),
-    ),
-];
-
-const fn extents(file: u64, other: u64, group_places: usize) -> Extents {
-    Extents {
-        file,
-        other,
-        group_places,
+impl Shape {
+    fn offsets(&self) -> Vec<u64> {
+        let units = places(self.places).into_iter();
+        units.map(|unit| unit * UNIT_BYTES + self.within).collect()
     }
 }
 
-/// Each shape on each store, ours and theirs.
-pub fn compared() {
-    for (at, (on, shape)) in STORES.iter().enumerate() {
-        let mut store = store(*shape);
-        let mut mounted = Mounted::new(&store);
-        let lent = lend(&mut store);
-        println!("-- {on}");
-        for shape in &SHAPES {
-            let offsets = offsets(shape);
-            let (mut ours, mut theirs) = (vec![0; shape.length], vec![0; shape.length]);
-            for &offset in &offsets {
-                lent.read(OBJECT, offset, &mut ours).expect("a read");
-                mounted.read(OBJECT, offset, &mut theirs).expect("a read");
-                assert!(ours == theirs, "{} at {offset}", shape.name);
-            }
-            for (with, checksum) in [
-                ("the instruction", by_instruction as oracle::Checksum),
-                ("slicing by 8", unit_checksum),
-            ] {
-                compute_checksums_by(checksum);
-                let (mut a, mut b) = (offsets.iter().cycle(), offsets.iter().cycle());
-                let best = pair(
-                    ROUNDS,
-                    SPAN,
-                    || {
-                        let offset = *a.next().expect("an offset");
-                        let _ = black_box(lent.read(OBJECT, offset, black_box(&mut ours)));
-                    },
-                    || {
-                        let offset = *b.next().expect("an offset");
-                        black_box(mounted.read(OBJECT, offset, black_box(&mut theirs)));
-                    },
-                );
-                times(&format!("read {}, and Rust with {with}", shape.name), best);
-                let limit = shape.limits[usize::from(at % 3 > 0)];
-                if with == "the instruction" && best.0 > limit * best.1 {
-                    println!("over the limit of {limit}");
-                }
-            }
+/// Each shape on a store, ours and theirs.
+pub fn compared(store: &mut Store, mounted: &mut Mounted, many: bool) {
+    let lent = lend(store);
+    for shape in &SHAPES {
+        let offsets = shape.offsets();
+        let (mut ours, mut theirs) = (vec![0; shape.length], vec![0; shape.length]);
+        for &offset in &offsets {
+            lent.read(OBJECT, offset, &mut ours).expect("a read");
+            mounted.read(OBJECT, offset, &mut theirs).expect("a read");
+            assert!(ours == theirs, "{} at {offset}", shape.name);
         }
-        tests_alone(&lent);
-    }
-}
-
-/// What refusals 1 and 2 cost on a store: the call fill adds only a count of bits.
-fn tests_alone(lent: &Store<'_>) {
-    let test = || {
-        let _ = black_box(black_box(lent).fill());
-    };
-    let ours = alone(ROUNDS, SPAN, test);
-    println!("{:<52} {:>8.2} us", "of that, refusals 1 and 2", ours * 1e6);
-}
-
-/// The same reads over stores of more and more extents: what they cost beside
-/// the tests of the store does not grow with the books.
-pub fn by_extents() {
-    println!("-- extents in another file: 1 MiB, 100 bytes, refusals 1 and 2, in us");
-    for other in [10, 100, 1_000, 10_000, 100_000] {
-        let mut store = store(extents(10, other, PLACES));
-        let lent = lend(&mut store);
-        let mut row = Vec::new();
-        for shape in [&SHAPES[0], &SHAPES[4]] {
-            let offsets = offsets(shape);
-            let mut at = offsets.iter().cycle();
-            let mut out = vec![0; shape.length];
-            let read = || {
-                let offset = *at.next().expect("an offset");
-                let _ = black_box(lent.read(OBJECT, offset, black_box(&mut out)));
-            };
-            row.push(alone(ROUNDS, SPAN, read));
+        for (with, checksum) in CHECKSUMS {
+            compute_checksums_by(checksum);
+            let (mut a, mut b) = (offsets.iter().cycle(), offsets.iter().cycle());
+            let best = pair(
+                ROUNDS,
+                SPAN,
+                || {
+                    let offset = *a.next().expect("an offset");
+                    let _ = black_box(lent.read(OBJECT, offset, black_box(&mut ours)));
+                },
+                || {
+                    let offset = *b.next().expect("an offset");
+                    black_box(mounted.read(OBJECT, offset, black_box(&mut theirs)));
+                },
+            );
+            times(&format!("read {}, and Rust with {with}", shape.name), best);
+            over(with, shape.limits[usize::from(many)], best);
         }
-        let test = || {
-            let _ = black_box(black_box(&lent).fill());
-        };
-        row.push(alone(ROUNDS, SPAN, test));
-        println!(
-            "{other:>8} {:>10.2} {:>10.2} {:>10.2}",
-            row[0] * 1e6,
-            row[1] * 1e6,
-            row[2] * 1e6
-        );
     }
 }
 
-/// Places in the first 64 MiB of the file, the same for both.
-fn offsets(shape: &Shape) -> Vec<u64> {
-    let mut random = Rng::new(4);
-    (0..shape.places)
-        .map(|_| random.below(1_000) * UNIT + shape.within)
-        .collect()
-}
-
-fn lend(store: &mut model::Store) -> Store<'_> {
-    let [image, head, cards, extents, groups, used, retired] =
-        store.buffers_mut().map(Vec::as_mut_slice);
-    Store {
-        image,
-        head,
-        cards,
-        extents,
-        groups,
-        used,
-        retired,
-    }
+/// Our times for 1 MiB and for 100 bytes, the same again and again.
+pub fn ours(store: &mut Store) -> [f64; 2] {
+    let lent = lend(store);
+    [&SHAPES[0], &SHAPES[4]].map(|shape| {
+        let offset = shape.offsets()[0];
+        let mut out = vec![0; shape.length];
+        alone(ROUNDS, SPAN, || {
+            let _ = black_box(lent.read(OBJECT, offset, black_box(&mut out)));
+        })
+    })
 }

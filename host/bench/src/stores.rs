@@ -5,6 +5,8 @@ use model::crc32c::unit_checksum;
 use model::{BLOCK_BYTES, Card, Extent, Group, Store, Volume};
 use random::Rng;
 
+use crate::checksum::by_instruction;
+
 /// The file that is read and written.
 pub const OBJECT: u64 = 7;
 /// The other.
@@ -21,6 +23,65 @@ pub struct Extents {
     pub file: u64,
     pub other: u64,
     pub group_places: usize,
+}
+
+/// Places of each book at least, the groups' too.
+pub const PLACES: usize = 1_024;
+
+/// The stores of the comparison, and whether they have 10,000 extents.
+pub const STORES: [(&str, Extents, bool); 6] = [
+    ("10 extents", extents(10, 1, PLACES), false),
+    ("10,000 extents", extents(10_000, 1, PLACES), true),
+    ("10,000 in another file", extents(10, 10_000, PLACES), true),
+    (
+        "10 extents, few places for groups",
+        extents(10, 1, 0),
+        false,
+    ),
+    (
+        "10,000 extents, few places for groups",
+        extents(10_000, 1, 0),
+        true,
+    ),
+    (
+        "10,000 in another file, few places for groups",
+        extents(10, 10_000, 0),
+        true,
+    ),
+];
+
+pub const fn extents(file: u64, other: u64, group_places: usize) -> Extents {
+    Extents {
+        file,
+        other,
+        group_places,
+    }
+}
+
+/// How the Rust computes its checksums.
+pub const CHECKSUMS: [(&str, oracle::Checksum); 2] = [
+    ("the instruction", by_instruction),
+    ("slicing by 8", unit_checksum),
+];
+
+/// Units of the file in which calls begin: its first 64 MiB, the same for both.
+pub fn places(count: usize) -> Vec<u64> {
+    let mut random = Rng::new(4);
+    (0..count).map(|_| random.below(1_000)).collect()
+}
+
+pub fn lend(store: &mut Store) -> sangueko::Store<'_> {
+    let [image, head, cards, extents, groups, used, retired] =
+        store.buffers_mut().map(Vec::as_mut_slice);
+    sangueko::Store {
+        image,
+        head,
+        cards,
+        extents,
+        groups,
+        used,
+        retired,
+    }
 }
 
 /// A store in which the files have so many extents, at shuffled places of the

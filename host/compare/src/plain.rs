@@ -1,9 +1,9 @@
 //! Document 01's demand 3 on a library: random histories from fresh against
 //! plain arrays.
 
-use std::collections::BTreeMap;
+use std::collections::{BTreeMap, BTreeSet};
 
-use model::{Call, MAX_TRANSFER_BYTES, Store, Volume};
+use model::{Answer, Call, MAX_TRANSFER_BYTES, Store, Volume};
 
 use crate::generate::{History, Profile};
 use crate::library::Library;
@@ -91,8 +91,9 @@ fn blocks_add_up(store: &Store, reserved: u64) -> bool {
 
 /// The calls of a history through the library: every accepted read has the
 /// plain array's count and bytes, every block is in one place, every card's
-/// count is right, and no number comes that demand 3 shuts out. Calls that the
-/// library does not have are the model's. Gives the number of its calls.
+/// count is right, and no number comes that demand 3 shuts out. At the end
+/// every byte that was written is read again. Calls that the library does not
+/// have are the model's. Gives the number of its calls.
 pub fn demand_3(library: &dyn Library, seed: u64, number: u64) -> u64 {
     let mut walk = Walk::new(History::new(seed, number));
     if walk.history.profile == Profile::Groups {
@@ -101,15 +102,20 @@ pub fn demand_3(library: &dyn Library, seed: u64, number: u64) -> u64 {
     let mut files = BTreeMap::new();
     let mut reserved_by_fresh = 0;
     let mut calls = 0;
+    let mut ask = |store: &mut Store, call: &Call| {
+        calls += 1;
+        let answer = if library.supports(call) {
+            library.run(store, call)
+        } else {
+            model::run(store, call)
+        };
+        let shut_out = matches!(answer.number, 2 | 9 | 10 | 11 | 12 | 14);
+        assert!(!shut_out, "seed {seed} history {number}: {}", answer.number);
+        answer
+    };
     // Demand 3 speaks of stores reached from fresh by calls alone.
     while let Some(call) = walk.call() {
-        calls += 1;
-        let answer = if library.supports(&call) {
-            library.run(&mut walk.store, &call)
-        } else {
-            model::run(&mut walk.store, &call)
-        };
-        assert!(!matches!(answer.number, 2 | 9 | 10 | 11 | 12 | 14));
+        let answer = ask(&mut walk.store, &call);
         if answer.number != 0 {
             continue;
         }
@@ -117,23 +123,62 @@ pub fn demand_3(library: &dyn Library, seed: u64, number: u64) -> u64 {
         if let Call::Fresh { reserved, .. } = call {
             reserved_by_fresh = reserved;
         }
-        if let Call::Read {
-            object,
-            offset,
-            length,
-        } = call
-        {
-            let file = &files[&object];
-            let count = file
-                .size
-                .saturating_sub(offset)
-                .min(length as u64)
-                .min(MAX_TRANSFER_BYTES as u64);
-            let mut expected = call.blank_output();
-            expected[..count as usize].copy_from_slice(&file.bytes(offset, count));
-            assert_eq!((answer.count, &answer.output), (count, &expected));
-        }
-        assert!(blocks_add_up(&walk.store, reserved_by_fresh));
+        let what = format!("seed {seed} history {number} step {}", walk.step);
+        read_is_plain(&files, &call, &answer, &what);
+        assert!(blocks_add_up(&walk.store, reserved_by_fresh), "{what}");
+    }
+    for call in reads_of_all(&files) {
+        let answer = ask(&mut walk.store, &call);
+        let what = format!("seed {seed} history {number}, read again");
+        assert_eq!(answer.number, 0, "{what}");
+        read_is_plain(&files, &call, &answer, &what);
     }
     calls
+}
+
+/// An accepted read has the plain array's count and bytes, and the rest of its
+/// buffer is as it was.
+fn read_is_plain(files: &BTreeMap<u64, Plain>, call: &Call, answer: &Answer, what: &str) {
+    let Call::Read {
+        object,
+        offset,
+        length,
+    } = *call
+    else {
+        return;
+    };
+    let file = &files[&object];
+    let count = file
+        .size
+        .saturating_sub(offset)
+        .min(length as u64)
+        .min(MAX_TRANSFER_BYTES as u64);
+    let mut expected = call.blank_output();
+    expected[..count as usize].copy_from_slice(&file.bytes(offset, count));
+    assert_eq!(answer.count, count, "{what}");
+    assert!(answer.output == expected, "{what}: the bytes part");
+}
+
+/// Reads of every stretch that was written, with some bytes on either side, and
+/// of every file's end.
+fn reads_of_all(files: &BTreeMap<u64, Plain>) -> Vec<Call> {
+    let beside = 5_000;
+    let mut stretches = BTreeSet::new();
+    for (&object, file) in files {
+        stretches.insert((object, file.size.saturating_sub(beside), file.size));
+        for (offset, written) in &file.writes {
+            let from = offset.saturating_sub(beside);
+            stretches.insert((object, from, offset + written.len() as u64));
+        }
+    }
+    let reads = stretches.into_iter().flat_map(|(object, from, to)| {
+        // Two where one read cannot take so much.
+        let offsets = (from..=to).step_by(MAX_TRANSFER_BYTES);
+        offsets.map(move |offset| Call::Read {
+            object,
+            offset,
+            length: (to - offset + beside) as usize,
+        })
+    });
+    reads.collect()
 }

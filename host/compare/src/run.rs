@@ -128,6 +128,18 @@ pub fn compare_history(
     other: Other<'_>,
     tally: &mut Tally,
 ) -> Result<(), Box<Failure>> {
+    watched_history(seed, number, &|_, _| {}, other, tally)
+}
+
+/// The same, where `watch` is shown each call, of all seven, with the store
+/// before it.
+pub fn watched_history(
+    seed: u64,
+    number: u64,
+    watch: &dyn Fn(&Store, &Call),
+    other: Other<'_>,
+    tally: &mut Tally,
+) -> Result<(), Box<Failure>> {
     let mut walk = Walk::new(History::new(seed, number));
     let mut rust = walk.store.clone();
     *tally.profiles.entry(walk.history.profile).or_default() += 1;
@@ -144,6 +156,7 @@ pub fn compare_history(
             }
         };
         tally.calls += 1;
+        watch(&walk.store, &call);
         let used_before = walk.store.used.clone();
         let answer = model::run(&mut walk.store, &call);
         // A place that a damaged store shares may be kept and retired at

@@ -49,10 +49,10 @@ type Result<T> = std::result::Result<T, Error>;
 pub use format::compact_group;
 #[cfg(all(carryfs, feature = "mounted"))]
 pub use format::{Checksum, compute_checksums_by};
-#[cfg(all(carryfs, feature = "mounted"))]
-pub use volume::Mounted;
 #[cfg(carryfs)]
 pub use volume::run;
+#[cfg(all(carryfs, feature = "mounted"))]
+pub use volume::{Kept, Mounted};
 
 /// Whether the published source was there when the crate was built.
 pub const AVAILABLE: bool = cfg!(carryfs);

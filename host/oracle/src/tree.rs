@@ -46,6 +46,12 @@ impl Edge {
         self.look(|records| records.iter().map(pair).collect())
     }
 
+    /// The same records, which changes to these leave as they are.
+    #[cfg(feature = "mounted")]
+    pub(crate) fn apart(&self) -> Self {
+        Self(Rc::new(RefCell::clone(&self.0)))
+    }
+
     #[cfg(not(feature = "mounted"))]
     fn look<T>(&self, look: impl FnOnce(&Records) -> T) -> T {
         look(&self.0)

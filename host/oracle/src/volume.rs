@@ -17,7 +17,7 @@ mod namespace;
 
 pub use driver::run;
 #[cfg(feature = "mounted")]
-pub use mounted::Mounted;
+pub use mounted::{Kept, Mounted};
 
 // The published text, from where it stands:
 //     #[path = "<carryfs source>/src/volume/file.rs"] mod file;

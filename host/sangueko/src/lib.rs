@@ -18,7 +18,13 @@
 //! store.fresh(&[7; 16], 1)?;
 //! store.enter(7, 1_700_000_000, 0)?;
 //! assert_eq!(store.enter(7, 1_700_000_000, 0), Err(Refusal::CardExists));
-//! assert_eq!(store.fill(), Ok(125)); // one block of eight
+//! store.write(7, 0, b"kept", 1_700_000_001, 0)?;
+//! store.grow(7, 10_000, 1_700_000_002, 0)?;
+//! let mut out = [1; 6];
+//! assert_eq!(store.read(7, 0, &mut out), Ok(6));
+//! assert_eq!(&out, b"kept\0\0");
+//! assert_eq!(store.settle(), Ok(1)); // the block that the grow took the place of
+//! assert_eq!(store.fill(), Ok(500)); // four blocks of eight
 //! # Ok::<(), Refusal>(())
 //! ```
 //!
@@ -50,10 +56,10 @@ pub const UUID_BYTES: usize = 16;
 pub const MOST_BLOCKS: usize = 65_536;
 /// Places of a book at most.
 pub const MOST_PLACES: usize = 1_048_575;
-/// Bytes that one read takes at most.
+/// Bytes that one write or read takes at most.
 pub const MOST_TRANSFER: usize = 1_048_576;
 /// Stack that a call takes at most.
-pub const STACK_BYTES: usize = 65_536;
+pub const STACK_BYTES: usize = 262_144;
 
 /// Bytes of a map of so many blocks: 8 for each 64 blocks begun.
 ///

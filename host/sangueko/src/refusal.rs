@@ -4,10 +4,8 @@ use std::error::Error;
 use std::fmt;
 
 /// The cases in which a call is refused, with document 01's numbers. A call
-/// tries them in the order of their numbers and gives the first that applies.
-///
-/// The calls that stand give 1, 2, 4, 7 and 8; the others belong to writing,
-/// growing and reading.
+/// tries them in the order of their numbers and gives the first that applies;
+/// 9 to 14 are tried unit by unit.
 ///
 /// ```
 /// use sangueko::Refusal;

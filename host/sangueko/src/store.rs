@@ -80,6 +80,96 @@ impl Store<'_> {
         ffi::enter(self, object, seconds, nanoseconds)
     }
 
+    /// Writes the first bytes of `bytes`, at most
+    /// [`MOST_TRANSFER`](crate::MOST_TRANSFER), into the file from `offset` on,
+    /// over what was there; past its end the file grows, and what lies between
+    /// reads as zeros. Answers how many bytes were taken: all, or `MOST_TRANSFER`
+    /// of more, and the caller writes the rest. The file's time becomes the one
+    /// given. Empty `bytes` answer 0 and change nothing.
+    ///
+    /// New bytes go to free blocks. Those they take the place of stay used, as
+    /// retired blocks, until [`settle`](Store::settle) lets them go.
+    ///
+    /// # Errors
+    ///
+    /// In this order: [`WrongLength`](Refusal::WrongLength),
+    /// [`BrokenRule`](Refusal::BrokenRule), [`NoCard`](Refusal::NoCard),
+    /// [`PastLimit`](Refusal::PastLimit), [`BadTime`](Refusal::BadTime); then,
+    /// unit by unit, [`NoChecksum`](Refusal::NoChecksum),
+    /// [`NotBacked`](Refusal::NotBacked),
+    /// [`NonzeroPastEnd`](Refusal::NonzeroPastEnd) and
+    /// [`ChecksumDiffers`](Refusal::ChecksumDiffers) where old bytes of the unit
+    /// stay, [`NoSpace`](Refusal::NoSpace),
+    /// [`CountDisagrees`](Refusal::CountDisagrees); at last
+    /// [`NoGroupPlace`](Refusal::NoGroupPlace),
+    /// [`NoExtentPlace`](Refusal::NoExtentPlace). Empty `bytes` meet only the
+    /// first three.
+    ///
+    /// ```
+    /// # use sangueko::{Places, Refusal, StoreBuf};
+    /// # let mut buffers = StoreBuf::new(4, Places { cards: 1, extents: 8, groups: 1 })?;
+    /// # let mut store = buffers.lend();
+    /// # store.fresh(&[0; 16], 1)?;
+    /// store.enter(7, 1_700_000_000, 0)?;
+    /// assert_eq!(store.write(7, 2, b"store", 1_700_000_001, 0), Ok(5));
+    /// let mut out = [1; 8];
+    /// assert_eq!(store.read(7, 0, &mut out), Ok(7));
+    /// assert_eq!(&out, b"\0\0store\x01");
+    /// assert_eq!(store.write(7, 3, b"ee", 1_700_000_002, 0), Ok(2));
+    /// assert_eq!(store.fill(), Ok(750)); // one reserved, one of the file, one retired
+    /// assert_eq!(store.write(7, 0, &[1; 4097], 0, 0), Err(Refusal::NoSpace));
+    /// assert_eq!(store.settle(), Ok(1));
+    /// assert_eq!(store.write(7, 0, &[1; 4097], 0, 0), Ok(4097));
+    /// # Ok::<(), Refusal>(())
+    /// ```
+    pub fn write(
+        &mut self,
+        object: u64,
+        offset: u64,
+        bytes: &[u8],
+        seconds: u64,
+        nanoseconds: u64,
+    ) -> Result<u64, Refusal> {
+        ffi::write(self, object, offset, bytes, seconds, nanoseconds)
+    }
+
+    /// Makes the file `size` bytes long; the new bytes read as zeros, and take
+    /// blocks only as far as the unit that the file ended in. Answers 0. The
+    /// file's time becomes the one given, but its present size changes nothing,
+    /// and files do not shrink.
+    ///
+    /// # Errors
+    ///
+    /// In this order: [`WrongLength`](Refusal::WrongLength),
+    /// [`BrokenRule`](Refusal::BrokenRule), [`NoCard`](Refusal::NoCard),
+    /// [`PastLimit`](Refusal::PastLimit), [`BelowSize`](Refusal::BelowSize);
+    /// where the size is another, [`BadTime`](Refusal::BadTime) and, where the
+    /// file ended within a unit, the others of [`write`](Store::write).
+    ///
+    /// ```
+    /// # use sangueko::{Places, Refusal, StoreBuf};
+    /// # let mut buffers = StoreBuf::new(4, Places { cards: 1, extents: 8, groups: 1 })?;
+    /// # let mut store = buffers.lend();
+    /// # store.fresh(&[0; 16], 1)?;
+    /// store.enter(7, 1_700_000_000, 0)?;
+    /// assert_eq!(store.grow(7, 1 << 40, 1_700_000_001, 0), Ok(0));
+    /// let mut out = [1; 4];
+    /// assert_eq!(store.read(7, 1 << 39, &mut out), Ok(4));
+    /// assert_eq!(out, [0; 4]);
+    /// assert_eq!(store.grow(7, 10, 0, 0), Err(Refusal::BelowSize));
+    /// assert_eq!(store.fill(), Ok(250)); // of four blocks, the one reserved
+    /// # Ok::<(), Refusal>(())
+    /// ```
+    pub fn grow(
+        &mut self,
+        object: u64,
+        size: u64,
+        seconds: u64,
+        nanoseconds: u64,
+    ) -> Result<u64, Refusal> {
+        ffi::grow(self, object, size, seconds, nanoseconds)
+    }
+
     /// Reads the file's bytes from `offset` on to the head of `out`: as many as
     /// it has room for, as there are before the file's end, and at most
     /// [`MOST_TRANSFER`](crate::MOST_TRANSFER). Answers how many; the rest of
@@ -114,8 +204,8 @@ impl Store<'_> {
         ffi::read(self, object, offset, out)
     }
 
-    /// Lets the retired blocks go, which are free afterwards. Answers how many
-    /// they were.
+    /// Lets the retired blocks go, which files have given up: they are free
+    /// afterwards. Answers how many they were.
     ///
     /// # Errors
     ///

@@ -79,3 +79,41 @@ fn the_header_has_the_same_sizes() {
         sizes.map(|(name, value)| format!("{name} {value}"))
     );
 }
+
+/// The functions of a text, each with the words of its parameters: those that
+/// stand between its name and the closing bracket.
+fn functions<'a>(text: &'a str, before: &str) -> Vec<(&'a str, Vec<&'a str>)> {
+    let declared = text.split(before).skip(1).filter_map(|rest| {
+        let (name, rest) = rest.split_once('(')?;
+        let (parameters, _) = rest.split_once(')')?;
+        let parameters = parameters.split(',').map(str::trim);
+        Some((name, parameters.filter(|p| !p.is_empty()).collect()))
+    });
+    declared.collect()
+}
+
+/// A parameter of the crate, `name: type`, as the header declares it.
+fn in_c(parameter: &str) -> String {
+    let (name, kind) = parameter.split_once(": ").expect("a name and a type");
+    let kind = match kind {
+        "*const u8" => "const uint8_t *",
+        "*mut u8" => "uint8_t *",
+        "usize" => "size_t ",
+        "u64" => "uint64_t ",
+        _ => panic!("{kind}"),
+    };
+    format!("{kind}{name}")
+}
+
+#[test]
+fn the_header_has_the_same_calls() {
+    let bound = functions(include_str!("../src/ffi.rs"), "    fn sangueko_");
+    let listed = functions(HEADER, "struct sangueko_answer sangueko_");
+    assert_eq!(bound.len(), 7);
+    assert_eq!(listed.len(), 7);
+    for (name, parameters) in bound {
+        let parameters: Vec<String> = parameters.into_iter().map(in_c).collect();
+        let same = listed.iter().find(|(listed, _)| *listed == name);
+        assert_eq!(same.expect("a prototype").1, parameters, "{name}");
+    }
+}

@@ -93,15 +93,7 @@ fn answer(store: &mut Store, call: &Call, output: &mut [u8]) -> Outcome {
         store.image[at..at + page.len()].copy_from_slice(&page);
     }
     (store.used, store.retired) = (used, retired);
-    books.store(store);
-    Head {
-        hint: data_hint,
-        cards: books.cards.len(),
-        extents: books.extents.len(),
-        groups: books.groups.len(),
-        ..head
-    }
-    .encode(&mut store.head);
+    books.store(store, data_hint);
     Outcome::Accepted(count)
 }
 
@@ -145,14 +137,14 @@ fn present_size(catalog: &Edge, object: u64) -> Option<u64> {
 }
 
 /// The catalog's records as the three books' records.
-struct Books {
+pub(super) struct Books {
     cards: Vec<Card>,
     extents: Vec<Vec<u8>>,
     groups: Vec<Vec<u8>>,
 }
 
 impl Books {
-    fn of(catalog: &Edge) -> Self {
+    pub(super) fn of(catalog: &Edge) -> Self {
         let mut books = Self {
             cards: Vec::new(),
             extents: Vec::new(),
@@ -178,7 +170,16 @@ impl Books {
         books
     }
 
-    fn store(&self, store: &mut Store) {
+    /// Into the store's books, with the hint and their numbers in its head.
+    pub(super) fn store(&self, store: &mut Store, hint: u64) {
+        Head {
+            hint,
+            cards: self.cards.len(),
+            extents: self.extents.len(),
+            groups: self.groups.len(),
+            ..Head::decode(&store.head)
+        }
+        .encode(&mut store.head);
         store.cards.fill(0);
         for (card, place) in self.cards.iter().zip(store.cards.chunks_mut(CARD_BYTES)) {
             card.encode(place);

@@ -6,10 +6,10 @@ use model::records::Head;
 use model::{Store, Time};
 
 use crate::device::BlockDevice;
-use crate::tree::Root;
+use crate::tree::{Edge, Root};
 use crate::{Error, Result};
 
-use super::driver::catalog;
+use super::driver::{Books, catalog};
 use super::{Handle, ObjectId, Registry, Timestamp, Volume};
 
 /// The blocks in memory. Pages are written where they belong at once.
@@ -44,6 +44,14 @@ impl BlockDevice for Memory {
 /// The published volume over a store's records and blocks.
 pub struct Mounted(Volume<Memory>);
 
+/// The records, maps and hint of a mounted store, as they were.
+pub struct Kept {
+    catalog: Edge,
+    used: Vec<u8>,
+    retired: Vec<u8>,
+    hint: u64,
+}
+
 impl Mounted {
     /// The store, which is past refusals 1 and 2.
     pub fn new(store: &Store) -> Self {
@@ -74,6 +82,41 @@ impl Mounted {
     pub fn grow(&mut self, object: u64, size: u64, time: Time) -> Option<()> {
         Timestamp::lend(time);
         self.0.truncate(&Handle(ObjectId(object)), size).ok()
+    }
+
+    pub fn keep(&self) -> Kept {
+        let Volume {
+            catalog,
+            used,
+            retired,
+            data_hint,
+            ..
+        } = &self.0;
+        Kept {
+            catalog: catalog.apart(),
+            used: used.clone(),
+            retired: retired.clone(),
+            hint: *data_hint,
+        }
+    }
+
+    /// The store as it was kept, but for blocks that were free: a call writes
+    /// to those alone.
+    pub fn set_back(&mut self, kept: &Kept) {
+        self.0.catalog = kept.catalog.apart();
+        self.0.used.clone_from(&kept.used);
+        self.0.retired.clone_from(&kept.retired);
+        self.0.data_hint = kept.hint;
+    }
+
+    /// Whether it is the store in these bytes: every record, bit and block.
+    pub fn agrees(&self, store: &Store) -> bool {
+        let mut records = Store::default();
+        records.copy_records_from(store);
+        Books::of(&self.0.catalog).store(&mut records, self.0.data_hint);
+        records.used.clone_from(&self.0.used);
+        records.retired.clone_from(&self.0.retired);
+        records.records_equal(store) && self.0.device.0 == store.image
     }
 
     /// Frees what the calls so far have retired, as settle does.

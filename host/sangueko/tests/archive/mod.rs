@@ -1,18 +1,12 @@
 //! The library of the comparison that is the linked archive.
 
 use compare::library::{Lent, Library, Request, Told};
-use model::Call;
 use sangueko::{Refusal, Store};
 
 /// The linked archive, through the safe calls.
 pub struct Archive;
 
 impl Library for Archive {
-    /// Write and grow do not stand yet.
-    fn supports(&self, call: &Call) -> bool {
-        !matches!(call, Call::Write { .. } | Call::Grow { .. })
-    }
-
     fn lent(&self, lent: Lent<'_>, request: Request<'_>) -> Told {
         let mut store = Store {
             image: lent.image,
@@ -30,6 +24,19 @@ impl Library for Archive {
                 seconds,
                 nanoseconds,
             } => store.enter(object, seconds, nanoseconds),
+            Request::Write {
+                object,
+                offset,
+                bytes,
+                seconds,
+                nanoseconds,
+            } => store.write(object, offset, bytes, seconds, nanoseconds),
+            Request::Grow {
+                object,
+                size,
+                seconds,
+                nanoseconds,
+            } => store.grow(object, size, seconds, nanoseconds),
             Request::Settle => store.settle(),
             Request::Fill => store.fill(),
             Request::Read {
@@ -37,9 +44,6 @@ impl Library for Archive {
                 offset,
                 out,
             } => store.read(object, offset, out),
-            Request::Write { .. } | Request::Grow { .. } => {
-                unreachable!("a call that it does not have")
-            }
         })
     }
 }

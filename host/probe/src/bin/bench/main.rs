@@ -22,7 +22,7 @@ fn filled(len: usize) -> Vec<u8> {
 }
 
 fn main() {
-    println!("{:<52} {:>8} {:>8}", "", "ours", "theirs");
+    println!("{:<66} {:>8} {:>8}", "", "ours", "theirs");
     crc();
     pieces();
     ranges();

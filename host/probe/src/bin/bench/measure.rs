@@ -43,7 +43,7 @@ fn per_call(span: Duration, job: &mut impl FnMut()) -> f64 {
 pub fn speeds(name: &str, bytes: usize, (ours, theirs): (f64, f64)) {
     let rate = |seconds: f64| bytes as f64 / seconds / 1e9;
     println!(
-        "{name:<52} {:>8.2} {:>8.2} GB/s   {:>5.2} of its speed",
+        "{name:<66} {:>8.2} {:>8.2} GB/s   {:>5.2} of its speed",
         rate(ours),
         rate(theirs),
         theirs / ours
@@ -53,7 +53,7 @@ pub fn speeds(name: &str, bytes: usize, (ours, theirs): (f64, f64)) {
 /// One line: what was measured, both times, and our time over theirs.
 pub fn times(name: &str, (ours, theirs): (f64, f64)) {
     println!(
-        "{name:<52} {:>8.2} {:>8.2} us     {:>5.2} of its time",
+        "{name:<66} {:>8.2} {:>8.2} us     {:>5.2} of its time",
         ours * 1e6,
         theirs * 1e6,
         ours / theirs

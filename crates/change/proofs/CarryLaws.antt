@@ -49,8 +49,8 @@ use Rattle.file.proofs.CarryLaws.{Told, flat-told, cards-ready, extents-ready, 
 use Rattle.file.proofs.FitLaws.{extents-fit, books-fit, fit-refused, fit-carried}
 use Rattle.file.proofs.OutLaws.{plan-told}
 use Rattle.file.proofs.ReadyLaws.{groups-ready, room-ready, left-ready, extents-left-ready, made-ready, flat-most}
-use Rattle.write.specs.Change.{changeOf}
-use Rattle.write.specs.Carry.{CarryReady, CarryFor}
+use Rattle.change.specs.Change.{changeOf}
+use Rattle.change.specs.Carry.{CarryReady, CarryFor}
 
 -- ---- the blocks of units side by side
 

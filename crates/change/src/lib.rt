@@ -1,4 +1,8 @@
 // A change to a file: planned, decided and carried out.
+//
+// The plan stores nothing, and whether the books that it leaves fit is known before anything is stored: a refused change leaves every byte as it was.
+pub mod carry;
+
 ghost use mathlib.Core.Path.{_≡_};
 ghost use Prim.Native.Nat.{ℕ, _*_, _≤_};
 ghost use lib.ListN.{length};
@@ -6,7 +10,7 @@ ghost use Rattle.rules.specs.Sizes.{unitBlocks};
 ghost use Rattle.rules.specs.Extent.{extentBytes};
 ghost use Rattle.rules.specs.Store.{lent};
 ghost use Rattle.file.specs.Change.{numbered};
-ghost use Rattle.write.specs.Change.{ChangeReady, HeadSays, ArraysEach, changed};
+ghost use Rattle.change.specs.Change.{ChangeReady, HeadSays, ArraysEach, changed};
 use format::sizes::UNIT_BLOCKS;
 use rewrite::Change;
 
@@ -76,7 +80,7 @@ fn change_units(
     }
     let skip = plan.skip;
     let from = UNIT_BLOCKS * skip;
-    super::carry::carry_change(
+    carry::carry_change(
         image,
         head,
         cards,

@@ -1,9 +1,9 @@
--- `write::carry::flat_blocks` meets its contract.
+-- `change::carry::flat_blocks` meets its contract.
 -- Assumes nothing.
 use borrow.Author.Needs.{needs}
-use Rattle.write.proofs.CarryLaws.{flat-none, last-inside, flat-counted}
-use Rattle.write.proofs.carry.flat_blocks.Statement.{statement}
-use Rattle.write.proofs.carry.flat_blocks.Tie as tie
+use Rattle.change.proofs.CarryLaws.{flat-none, last-inside, flat-counted}
+use Rattle.change.proofs.carry.flat_blocks.Statement.{statement}
+use Rattle.change.proofs.carry.flat_blocks.Tie as tie
 
 returns : tie.Need-returns
 returns c = λ d e. flat-none _ (c .if1 .taken) d

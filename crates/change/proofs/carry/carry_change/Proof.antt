@@ -1,10 +1,10 @@
--- `write::carry::carry_change` meets its contract.
+-- `change::carry::carry_change` meets its contract.
 -- Assumes nothing.
 use native.Mathlib.Omega.{arith}
 use borrow.Author.Needs.{needs}
-use Rattle.write.proofs.CarryLaws.{each-begins, flat-taken, extents-asked, groups-asked, out-asked, change-refused, change-carried}
-use Rattle.write.proofs.carry.carry_change.Statement.{statement}
-use Rattle.write.proofs.carry.carry_change.Tie as tie
+use Rattle.change.proofs.CarryLaws.{each-begins, flat-taken, extents-asked, groups-asked, out-asked, change-refused, change-carried}
+use Rattle.change.proofs.carry.carry_change.Statement.{statement}
+use Rattle.change.proofs.carry.carry_change.Tie as tie
 
 flat-blocks-requires : tie.Need-flat-blocks-requires
 flat-blocks-requires c κs =

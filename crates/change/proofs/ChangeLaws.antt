@@ -46,10 +46,10 @@ use Rattle.finish_extents.specs.Stretch.{Planned}
 use Rattle.file.specs.Change.{numbered}
 use Rattle.file.specs.Planned.{PlanReady, PlanRoom, ChangeFor, AllSettled, ChangePlanned}
 use Rattle.file.proofs.OutcomeLaws.{plan-refused}
-use Rattle.write.specs.Change.{changeOf, ChangeReady, HeadSays, ArraysEach, changed}
-use Rattle.write.specs.Carry.{CarryReady, CarryFor}
-use Rattle.write.proofs.StepLaws.{planned-hint, tail-group}
-use Rattle.write.proofs.BehindLaws.{Rest, rest-of, order-behind, each-behind, few-behind, clear-behind, right-behind}
+use Rattle.change.specs.Change.{changeOf, ChangeReady, HeadSays, ArraysEach, changed}
+use Rattle.change.specs.Carry.{CarryReady, CarryFor}
+use Rattle.change.proofs.StepLaws.{planned-hint, tail-group}
+use Rattle.change.proofs.BehindLaws.{Rest, rest-of, order-behind, each-behind, few-behind, clear-behind, right-behind}
 
 -- ---- arrays without their first entries
 

@@ -17,7 +17,7 @@ ghost use Rattle.finish_extents.specs.Stretch.{Planned};
 ghost use Rattle.file.specs.Change.{numbered};
 ghost use Rattle.file.specs.Fit.{Fits};
 ghost use Rattle.file.specs.Flat.{flatBlocks};
-ghost use Rattle.write.specs.Carry.{CarryReady, CarryFor};
+ghost use Rattle.change.specs.Carry.{CarryReady, CarryFor};
 use file::fit::Fit;
 use finish_extents::Exchange;
 use format::sizes::BLOCK_BYTES;

@@ -1,10 +1,10 @@
--- `write::carry::fit_change` meets its contract.
+-- `change::carry::fit_change` meets its contract.
 -- Assumes nothing.
 use native.Mathlib.Omega.{arith}
 use borrow.Author.Needs.{needs}
-use Rattle.write.proofs.CarryLaws.{fit-none}
-use Rattle.write.proofs.carry.fit_change.Statement.{statement}
-use Rattle.write.proofs.carry.fit_change.Tie as tie
+use Rattle.change.proofs.CarryLaws.{fit-none}
+use Rattle.change.proofs.carry.fit_change.Statement.{statement}
+use Rattle.change.proofs.carry.fit_change.Tie as tie
 
 returns : tie.Need-returns
 returns c =

@@ -1,11 +1,11 @@
--- `write::change::change_file` meets its contract.
+-- `change::change_file` meets its contract.
 -- Assumes nothing.
 use native.Mathlib.Omega.{arith}
 use Rattle.rules.proofs.PassLaws.{passes-head}
-use Rattle.write.proofs.ChangeLaws.{slots-room, blocks-room, made-room, arrays-room, head-says}
+use Rattle.change.proofs.ChangeLaws.{slots-room, blocks-room, made-room, arrays-room, head-says}
 use borrow.Author.Needs.{needs}
-use Rattle.write.proofs.change.change_file.Statement.{statement}
-use Rattle.write.proofs.change.change_file.Tie as tie
+use Rattle.change.proofs.change_file.Statement.{statement}
+use Rattle.change.proofs.change_file.Tie as tie
 
 decode-head-requires : tie.Need-decode-head-requires
 decode-head-requires c κs = passes-head _ (c .before .before .before .before .before .before .before .before .before .before .pre .passes)

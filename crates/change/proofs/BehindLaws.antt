@@ -19,8 +19,8 @@ use Rattle.book.specs.Places.{groupIs}
 use Rattle.finish_extents.specs.Stretch.{Planned}
 use Rattle.finish_books.specs.Groups.{UnitsRight}
 use Rattle.file.proofs.PartLaws.{extents-planned-range, extents-planned-tailed, units-right-range, units-right-tailed, units-small}
-use Rattle.write.specs.Change.{Lie, ChangeUnits}
-use Rattle.write.specs.Change.Lie.{run, tailed}
+use Rattle.change.specs.Change.{Lie, ChangeUnits}
+use Rattle.change.specs.Change.Lie.{run, tailed}
 
 -- the rest ascends
 pub order-behind : (k : ℕ) (us : List ℕ) → ascending ltb us ≡ true → ascending ltb (drop k us) ≡ true

@@ -1,11 +1,11 @@
--- `write::change::change_units` meets its contract.
+-- `change::change_units` meets its contract.
 -- Assumes nothing.
 use mathlib.Core.Path.{refl}
 use native.Mathlib.Omega.{arith}
-use Rattle.write.proofs.ChangeLaws.{plan-ready, plan-room, arrays-after, change-for, units-refused, carry-ready′, change-carried′}
+use Rattle.change.proofs.ChangeLaws.{plan-ready, plan-room, arrays-after, change-for, units-refused, carry-ready′, change-carried′}
 use borrow.Author.Needs.{needs}
-use Rattle.write.proofs.change.change_units.Statement.{statement}
-use Rattle.write.proofs.change.change_units.Tie as tie
+use Rattle.change.proofs.change_units.Statement.{statement}
+use Rattle.change.proofs.change_units.Tie as tie
 
 plan-change-requires : tie.Need-plan-change-requires
 plan-change-requires c κs = let pre = c .before .before .before .before .before .before .before .before .before .before .before .before .before .before .before .before .before .before .before .before .before .before .before .pre in

@@ -1,0 +1,4 @@
+pub mod StepLaws
+pub mod BehindLaws
+pub mod CarryLaws
+pub mod ChangeLaws
