@@ -40,7 +40,7 @@ use Rattle.rules.proofs.EnterLaws.{TimeRight, time-right}
 use Rattle.rules.proofs.StoreAfter.{fresh-left, enter-left, settle-left}
 use Rattle.intake.specs.Join.{storeNumber}
 use Rattle.intake.proofs.JoinLaws.{number-passes}
-use Rattle.volume.specs.Buffers.{freshHead, oneCardMore, enterNumber, CardsRight, EnterReady}
+use Rattle.store.specs.Buffers.{freshHead, oneCardMore, enterNumber, CardsRight, EnterReady}
 use Rattle.volume.specs.Call.{handed, gave}
 
 -- ---- refusals 1 and 2

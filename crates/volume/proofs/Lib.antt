@@ -1,5 +1,3 @@
-pub mod MapLaws
-pub mod EnterLaws
 pub mod CallLaws
 pub mod ReadLaws
 pub mod WriteLaws

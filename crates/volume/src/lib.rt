@@ -4,11 +4,6 @@
 // it changes a byte, and answers a number and a count: a refused call gives its number with count 0 and leaves every buffer as it was.
 //
 // An export joins two parts: the tests, over the lent buffers as they are, and an inner call, which may take for granted that the tests passed.
-pub mod enter;
-pub mod fill;
-pub mod fresh;
-pub mod settle;
-
 ghost use mathlib.Core.Path.{_≡_};
 ghost use Rattle.rules.specs.Store.{lent};
 ghost use Rattle.rules.specs.Call.{call};
@@ -70,7 +65,7 @@ pub extern "C" fn sangueko_fill(
     if number != 0 {
         return Answer { number, count: 0 };
     }
-    let count = fill::used_per_mille(used, image.len() / BLOCK_BYTES);
+    let count = store::fill::used_per_mille(used, image.len() / BLOCK_BYTES);
     Answer { number: 0, count }
 }
 
@@ -91,7 +86,7 @@ pub extern "C" fn sangueko_settle(
     if number != 0 {
         return Answer { number, count: 0 };
     }
-    let count = settle::settle_maps(used, retired, image.len() / BLOCK_BYTES);
+    let count = store::settle::settle_maps(used, retired, image.len() / BLOCK_BYTES);
     Answer { number: 0, count }
 }
 
@@ -115,12 +110,12 @@ pub extern "C" fn sangueko_enter(
     if number != 0 {
         return Answer { number, count: 0 };
     }
-    let n = enter::card_count(head);
-    let number = enter::enter_refused(cards, n, object, seconds, nanoseconds);
+    let n = store::enter::card_count(head);
+    let number = store::enter::enter_refused(cards, n, object, seconds, nanoseconds);
     if number != 0 {
         return Answer { number, count: 0 };
     }
-    enter::enter_card(head, cards, n, object, seconds, nanoseconds);
+    store::enter::enter_card(head, cards, n, object, seconds, nanoseconds);
     Answer {
         number: 0,
         count: 0,
@@ -239,9 +234,9 @@ pub extern "C" fn sangueko_fresh(
         };
     }
     let blocks = image.len() / BLOCK_BYTES;
-    fresh::fresh_books(cards, extents, groups);
-    fresh::fresh_maps(used, retired, blocks, reserved as usize);
-    fresh::fresh_head(head, uuid, blocks as u64, reserved);
+    store::fresh::fresh_books(cards, extents, groups);
+    store::fresh::fresh_maps(used, retired, blocks, reserved as usize);
+    store::fresh::fresh_head(head, uuid, blocks as u64, reserved);
     Answer {
         number: 0,
         count: 0,
