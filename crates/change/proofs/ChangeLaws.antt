@@ -1,10 +1,9 @@
 -- A change of a file, from its plan over the lent buffers to what becomes of it.
 -- Assumes nothing.
 use mathlib.Core.Path.{_≡_, refl, sym, ap, _∙_}
-use mathlib.Core.Bool.{true, false}
-use mathlib.Core.List.{List, [], _∷_}
+use mathlib.Core.List.{List, []}
 use mathlib.Core.Option.{some}
-use Prim.Native.Nat.{ℕ, _+_, _-_, _*_, _/_, _^_, _≤_, _<_}
+use Prim.Native.Nat.{ℕ, _+_, _-_, _*_, _/_, _≤_, _<_}
 use native.Mathlib.Decide.{decLt}
 use native.Mathlib.Omega.{arith}
 use lib.ListN.{length, take, drop, getD, replicate, length-drop, length-replicate, List·getD-eq-default}
@@ -12,37 +11,29 @@ use lib.Seq.{getD-drop, drop-drop, length-take-le}
 use borrow.Rule.Slice.PartAt.{part-to-end}
 use Rattle.rules.specs.Lists.{begun}
 use Rattle.rules.specs.Sizes.{blockBytes, unitBlocks, unitBytes, mostBlocks, mostAllocated}
-use Rattle.rules.specs.Bytes.{part, bitSet}
-use Rattle.rules.specs.Map.{mapBytes}
+use Rattle.rules.specs.Bytes.{part}
 use Rattle.rules.specs.Head.{decodeHead}
 use Rattle.rules.specs.Extent.{extentBytes}
-use Rattle.rules.specs.Group.{groupBytes, decodeGroup}
-use Rattle.rules.specs.Book.{decodeBook}
-use Rattle.rules.specs.Store.{Store, Volume, decode, decodeWith, headOf, imageBlocks}
+use Rattle.rules.specs.Store.{Store, decode, decodeWith, headOf, imageBlocks}
 use Rattle.rules.specs.Refusal.{result}
-use Rattle.rules.specs.Units.{Change, validLength, touches, readsOld}
-use Rattle.rules.specs.Inspect.{inspectUnit}
+use Rattle.rules.specs.Units.{Change, validLength}
 use Rattle.rules.specs.Kept.{blocksAfter}
 use Rattle.rules.specs.Rewrite.{Progress, Plan, rewriteUnits}
 use Rattle.rules.specs.Rewrite.Plan.{planned}
 use Rattle.rules.specs.Write.{carriedOut}
-use Rattle.rules.proofs.ListLaws.{Each, each-at, each-weaken}
+use Rattle.rules.proofs.ListLaws.{each-at, each-weaken}
 use Rattle.rules.proofs.ByteLaws.{getD-part}
-use Rattle.rules.proofs.PassLaws.{Passes, BuffersSized, passes-sized, passes-room, room-decode, lawful-decode, decode-fits}
+use Rattle.rules.proofs.PassLaws.{Passes, BuffersSized, passes-sized, room-decode, lawful-decode, decode-fits}
 use Rattle.format.specs.Records as Records
 use Rattle.format.specs.declared.head.Head as heads
-use Rattle.mapping.specs.Entries.{entries, extentsIn, ExtentsRight}
 use Rattle.mapping.proofs.LookupLaws.{decode-extents, decode-groups, passes-extents, passes-groups}
-use Rattle.kept.specs.Change.{IsChange, ChangeFits}
 use Rattle.rewrite.specs.Plan.{laidUnits}
-use Rattle.rewrite.specs.Arguments.{Described, LookedUp, BlocksOf}
-use Rattle.rewrite.specs.Answers.{fromCard, Placed}
+use Rattle.rewrite.specs.Arguments.{BlocksOf}
+use Rattle.rewrite.specs.Answers.{fromCard}
 use Rattle.rewrite.specs.declared.Change as numbers
 use Rattle.rewrite.specs.declared.Plan as answer
-use Rattle.finish_units.specs.Carry.{CarriesFor}
 use Rattle.finish_units.proofs.PlanFreeLaws.{planned-passed, planned-free, kept-first}
 use Rattle.finish_books.specs.Groups.{groupsIn, UnitsRight}
-use Rattle.finish_extents.specs.Stretch.{Planned}
 use Rattle.file.specs.Change.{numbered}
 use Rattle.file.specs.Planned.{PlanReady, PlanRoom, ChangeFor, AllSettled, ChangePlanned}
 use Rattle.file.proofs.OutcomeLaws.{plan-refused}

@@ -21,7 +21,7 @@ use Rattle.rules.proofs.ListLaws.{if-true, if-false, Each, each-none, each-more
 use Rattle.rules.proofs.AllocationLaws.{hintAfter-lt, hintAfter-none, groups-four}
 use Rattle.rules.proofs.PassLaws.{Lawful}
 use Rattle.book.specs.Places.{groupIs}
-use Rattle.rewrite.specs.Plan.{laidUnit, laidUnits}
+use Rattle.rewrite.specs.Plan.{laidUnits}
 use Rattle.finish_units.proofs.PlanFreeLaws.{Sound, planned-sound}
 use Rattle.finish_units.proofs.CarryLaws.{length-laid}
 use Rattle.file.proofs.PartLaws.{checked-group}

@@ -4,9 +4,8 @@
 pub mod carry;
 
 ghost use mathlib.Core.Path.{_≡_};
-ghost use Prim.Native.Nat.{ℕ, _*_, _≤_};
+ghost use Prim.Native.Nat.{_*_, _≤_};
 ghost use lib.ListN.{length};
-ghost use Rattle.rules.specs.Sizes.{unitBlocks};
 ghost use Rattle.rules.specs.Extent.{extentBytes};
 ghost use Rattle.rules.specs.Store.{lent};
 ghost use Rattle.file.specs.Change.{numbered};

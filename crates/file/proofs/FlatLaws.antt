@@ -1,7 +1,7 @@
 -- What the units of a plan have together, told by arrays in which their blocks stand side by side: all blocks, the new ones, and those that they no longer have.
 -- Assumes nothing.
 use mathlib.Core.Path.{_≡_, refl, sym, ap, ap₂, _∙_}
-use mathlib.Core.List.{List, [], _∷_, _++_, map, flatMap, append-nil, map-append}
+use mathlib.Core.List.{List, [], _∷_, _++_, flatMap, append-nil, map-append}
 use mathlib.Core.Option.{Option, none, some}
 use mathlib.Core.Bool.{true}
 use Prim.Native.Nat.{ℕ, zero, suc, _-_, _*_, _≤_, _<_}

@@ -1,9 +1,8 @@
 -- The store that a change leaves, buffer by buffer.
 -- Assumes nothing.
 use mathlib.Core.Path.{_≡_, refl, sym, ap, _∙_}
-use mathlib.Core.Bool.{Bool, _||_}
-use mathlib.Core.List.{List, [], map}
-use mathlib.Core.Option.{some}
+use mathlib.Core.Bool.{_||_}
+use mathlib.Core.List.{List}
 use Prim.Native.Nat.{ℕ}
 use lib.ListN.{length, length-map}
 use Rattle.rules.specs.Lists.{member}
@@ -15,7 +14,7 @@ use Rattle.rules.specs.Extent.{extentBytes, decodeExtent, encodeExtent}
 use Rattle.rules.specs.Group.{groupBytes, decodeGroup, encodeGroup}
 use Rattle.rules.specs.Map.{encodeMap}
 use Rattle.rules.specs.Book.{decodeBook, decodeBooks, encodeBook}
-use Rattle.rules.specs.Store.{Store, lent, Volume, decode, decodeWith, headOf, encodeInto}
+use Rattle.rules.specs.Store.{Store, decode, decodeWith, headOf, encodeInto}
 use Rattle.rules.specs.Units.{Change}
 use Rattle.rules.specs.Rewrite.{Rewritten, Progress}
 use Rattle.rules.specs.Finish.{finished, finishedCards, finishedExtents, finishedGroups, finishedImage, newBlocks, supersededBlocks}

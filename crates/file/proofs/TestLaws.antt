@@ -2,12 +2,11 @@
 -- Assumes nothing.
 use mathlib.Core.Path.{_≡_, refl, sym, _∙_}
 use mathlib.Core.Bool.{Bool, true, false, _||_}
-use Prim.Native.Nat.{ℕ, _+_, _-_, _≤_, _<_}
-use native.Mathlib.Omega.{arith}
+use Prim.Native.Nat.{ℕ, _-_, _≤_, _<_}
 use lib.Dec.{eqb, ltb, leb}
 use borrow.Author.Tests.{lt-ltb, le-ltb, eq-eqb, ne-eqb}
 use Rattle.rules.specs.Lists.{if_then_else_}
-use Rattle.rules.specs.Sizes.{mostSize, mostSeconds, nanosecondsBound, mostTransfer}
+use Rattle.rules.specs.Sizes.{mostSize, mostSeconds, nanosecondsBound}
 use Rattle.rules.specs.Time.{Time}
 use Rattle.rules.specs.Arguments.{pastLimit, timeWrong}
 use Rattle.rules.proofs.ListLaws.{if-true, if-false}

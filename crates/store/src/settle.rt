@@ -2,7 +2,6 @@
 ghost use mathlib.Core.Path.{_≡_};
 ghost use mathlib.Core.Bool.{false, not, _&&_};
 ghost use lib.ListN.{length};
-ghost use Prim.Native.Nat.{_≤_};
 ghost use Rattle.rules.specs.Lists.{count, range};
 ghost use Rattle.rules.specs.Bytes.{bitSet};
 ghost use Rattle.rules.specs.Map.{mapBytes, encodeMap};

@@ -1,6 +1,6 @@
 -- `file::lookup::unit_checksums` meets its contract. The loop keeps: the checksums of the units so far are looked up.
 -- Assumes nothing.
-use mathlib.Core.Path.{_≡_, refl, sym, _∙_}
+use mathlib.Core.Path.{_≡_, refl, _∙_}
 use Prim.Native.Nat.{_+_, _-_, _≤_}
 use native.Mathlib.Omega.{arith}
 use lib.ListN.{length, take, drop}

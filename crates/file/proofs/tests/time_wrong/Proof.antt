@@ -1,9 +1,7 @@
 -- `file::tests::time_wrong` meets its contract.
 -- Assumes nothing.
-use mathlib.Core.Path.{refl}
 use native.Mathlib.Omega.{arith}
 use Rattle.file.proofs.TestLaws.{late-seconds, late-part}
-use borrow.Author.Needs.{needs}
 use Rattle.file.proofs.tests.time_wrong.Statement.{statement}
 use Rattle.file.proofs.tests.time_wrong.Tie as tie
 
