@@ -1,9 +1,17 @@
 # The two commands of README.md, and what they are made of. The Rattle kit (rt), cargo, cc and python3 are all that is needed.
-.PHONY: demo test compare bench clean
+.PHONY: demo tool test compare bench clean
 
-# The main job: prove what is claimed, and run the programs on it.
+# The main job: prove what is claimed, run the programs on it, and show the tool at work.
 demo:
 	rt check
+	target/bin/layout
+	rt staticlib volume
+	host/demo.sh
+
+# The command-line tool, at host/tool/target/release/sangueko.
+tool:
+	rt staticlib volume
+	cargo build --release --offline --quiet --manifest-path host/tool/Cargo.toml
 
 # The gate.
 test:
@@ -23,4 +31,4 @@ bench:
 	cargo run --release --offline --quiet --manifest-path host/bench/Cargo.toml
 
 clean:
-	rm -rf target host/target host/probe/target host/sangueko/target host/bench/target
+	rm -rf target host/target host/probe/target host/sangueko/target host/bench/target host/tool/target

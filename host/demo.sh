@@ -1,0 +1,108 @@
+#!/usr/bin/env bash
+# The command `sangueko` on a store in a temporary folder: a file of flags is written, overwritten, shown, settled and read back; a write is killed;
+# then one byte of a copy is damaged in each of several ways, and the refusals are shown in words. Every answer is compared with what it has to be:
+# the script fails where one is not. It needs the archive (`rt staticlib volume`), ends by itself and leaves nothing behind.
+set -euo pipefail
+cd "$(dirname "$0")/.."
+cargo build --release --offline --quiet --manifest-path host/tool/Cargo.toml
+sangueko=$PWD/host/tool/target/release/sangueko
+
+place=$(mktemp -d)
+trap 'rm -rf "$place"' EXIT
+cd "$place"
+
+say() { printf '\n-- %s\n' "$*"; }
+# the command as one would type it, and its answer
+run() {
+    echo "\$ sangueko $*"
+    "$sangueko" "$@"
+}
+# the same for a command that has to end with a code
+ends() {
+    local code=$1 got=0
+    shift
+    run "$@" 2>&1 || got=$?
+    echo "   (exit code $got)"
+    [ "$got" -eq "$code" ] || { echo "expected exit code $code"; exit 1; }
+}
+# COUNT bytes of one value, in octal
+bytes() { head -c "$1" /dev/zero | tr '\0' "\\$2"; }
+
+say "A store of 160 blocks; file 7 holds a bit for each coverage bin"
+run new store --blocks 160 --reserved 4 --cards 4 --groups 4 --uuid 00112233445566778899aabbccddeeff
+run enter store 7
+bytes 150000 357 >flags
+run write store 7 flags
+echo "a second file" >text
+run enter store 9
+run write store 9 text
+
+say "Some bins are excluded: zeros over a part of the flags. New bytes go to new blocks, and the old ones are retired"
+bytes 1000 000 >zeros
+run write store 7 zeros --at 60000
+dd if=zeros of=flags bs=1 seek=60000 conv=notrunc status=none
+
+say "Flags far behind the end. What lies between was never written, and reads as zeros: bins that nobody excluded"
+bytes 50000 377 >more
+run write store 7 more --at 400000
+truncate -s 400000 flags
+cat more >>flags
+run flags store 7
+
+say "The store"
+run show store
+
+say "Settled: the retired blocks are free again"
+run settle store
+run show store --json | sed 's/.*"map":"\(.*\)".*/\1/' | fold -w 64
+
+say "Read back, and compared with a plain file to which the same was done"
+run read store 7 --out back
+cmp back flags && echo "the same, byte for byte"
+
+say "A write of four calls is killed on the way: the store is as after some whole call"
+run new large --blocks 2000
+run enter large 1
+bytes 4000000 252 >large.bytes
+cp large/cards before
+"$sangueko" write large 1 large.bytes >/dev/null &
+writer=$!
+# until its first call has reached the files
+while cmp -s large/cards before && kill -0 "$writer" 2>/dev/null; do sleep 0.001; done
+kill -KILL "$writer" 2>/dev/null || true
+wait "$writer" 2>/dev/null || true
+ends 0 check large
+"$sangueko" show large | grep 'file 1:'
+
+# one byte of a copy is set to an octal value; the check has to end with a code
+damage() {
+    local what=$1 file=$2 at=$3 value=$4 code=$5
+    say "$what (byte $at of $file)"
+    rm -rf copy
+    cp -r store copy
+    printf "\\$value" | dd of="copy/$file" bs=1 seek="$at" conv=notrunc status=none
+    ends "$code" check copy
+}
+
+say "Now a copy is damaged, one byte at a time"
+damage "A byte of the flags" image 20480 000 12
+damage "The head's number of blocks" head 17 000 1
+damage "A spare bit of a card" cards 31 001 2
+damage "The count of an extent" extents 25 000 2
+damage "The first block of an extent" extents 17 001 2
+damage "A bit of the map of used blocks" used 0 177 2
+damage "A checksum's presence bit" groups 17 000 2
+damage "A checksum" groups 49 000 12
+
+say "A file that is a byte short, and one that is gone"
+rm -rf copy
+cp -r store copy
+truncate -s -1 copy/cards
+ends 1 fill copy
+rm copy/cards
+ends 66 fill copy
+
+say "What a refusal means"
+run explain 12
+echo "-- the store itself is untouched by all that"
+ends 0 check store

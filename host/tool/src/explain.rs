@@ -1,0 +1,95 @@
+//! `explain`: what a refusal means and what a user can do.
+
+use sangueko::Refusal;
+
+use crate::failure::Failure;
+
+/// The commands that can end with it, and what to do.
+fn advice(refusal: Refusal) -> (&'static str, &'static str) {
+    match refusal {
+        Refusal::WrongLength => (
+            "every command",
+            "`sangueko check FOLDER` names the file and the length that it should have. The lengths are chosen once, by `new`: \
+             put the file back from a copy. If `new` was refused: it takes 1 to 65,536 blocks, at most as many \
+             reserved ones, and at most 1,048,575 places in a book.",
+        ),
+        Refusal::BrokenRule => (
+            "every command but new",
+            "`sangueko check FOLDER` names the rule, the record and its bytes. No list of calls leads there: another program or \
+             the disk has changed the files. Put the folder back from a copy.",
+        ),
+        Refusal::NoCard => (
+            "write, grow, read, flags",
+            "`sangueko show FOLDER` lists the files; `sangueko enter FOLDER OBJECT` makes a new one.",
+        ),
+        Refusal::CardExists => (
+            "enter",
+            "Write to the file as it is, or choose another number; `sangueko show FOLDER` lists those in use.",
+        ),
+        Refusal::PastLimit => ("write, grow", "Choose a smaller --at or SIZE."),
+        Refusal::BelowSize => (
+            "grow",
+            "Files do not get shorter. To keep less of one, read the part and write it to a new file.",
+        ),
+        Refusal::BadTime => (
+            "enter, write, grow",
+            "Leave --time away to use the clock's, or give a smaller one.",
+        ),
+        Refusal::NoCardPlace => (
+            "enter",
+            "The number of files was chosen by `new`. Make a store with more --cards and copy the files over \
+             with read and write.",
+        ),
+        Refusal::NoChecksum => (
+            "read, flags, check, and writes and grows that keep a part of the unit",
+            "No list of calls leads there: something has changed the files. `sangueko check FOLDER` lists the units. A write \
+             over the whole unit does not read it and makes it good; else restore from a copy.",
+        ),
+        Refusal::NotBacked => (
+            "read, flags, check, and writes and grows that keep a part of the unit",
+            "As with 9: `sangueko check FOLDER` lists the units; write the whole unit again, or restore from a copy.",
+        ),
+        Refusal::NonzeroPastEnd => (
+            "read, flags, check, and writes and grows that keep a part of the unit",
+            "As with 9: `sangueko check FOLDER` names the byte; write the whole unit again, or restore from a copy.",
+        ),
+        Refusal::ChecksumDiffers => (
+            "read, flags, check, and writes and grows that keep a part of the unit",
+            "Bytes of the file have changed on the disk. `sangueko check FOLDER` lists the units; write the whole unit \
+             again, or restore from a copy. Other files and units are not touched by it.",
+        ),
+        Refusal::NoSpace => (
+            "write, grow",
+            "`sangueko settle FOLDER` lets retired blocks go; `sangueko show FOLDER` tells how many there are. If that is too few, make a larger \
+             store and copy the files over with read and write. What a write stored in earlier calls stays stored, and \
+             it says how much.",
+        ),
+        Refusal::CountDisagrees => (
+            "write, grow",
+            "The card's count is wrong, and no list of calls leads there. Restore from a copy, or read the file and \
+             write it to a new store: reads do not use the count.",
+        ),
+        Refusal::NoGroupPlace => (
+            "write",
+            "Each 16 MiB of a file that hold data take a place. Make a store with more --groups and copy the files over.",
+        ),
+        Refusal::NoExtentPlace => (
+            "write, grow",
+            "The files lie in too many pieces for the book. Settle, then write files again in one go, or make a store with more \
+             --extents; as many as there are blocks are always enough.",
+        ),
+    }
+}
+
+pub fn explain(number: u32) -> Result<String, Failure> {
+    let refusal = Refusal::of(number).ok_or_else(|| {
+        Failure::Usage(format!(
+            "there is no refusal {number}: they have the numbers 1 to 16"
+        ))
+    })?;
+    let (commands, advice) = advice(refusal);
+    Ok(format!(
+        "refusal {number}: {refusal}.\n\nWhere it comes: {commands}.\nWhat to do: {advice}\n\n\
+         The refused call changed nothing.\n"
+    ))
+}
