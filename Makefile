@@ -17,10 +17,16 @@ tool:
 test:
 	.ci/run
 
-# A million random calls through the library, document 01's model and the published Rust, and as many against plain arrays, with progress.
+# What `make compare` runs: so many calls from a seed, or the calls of a file.
+CALLS = 1000000
+SEED = 1
+REPLAY =
+
+# Random calls through the library, document 01's model and the published Rust, and as many against plain arrays, with progress and rate; a difference is made small and
+# written to a file.
 compare:
 	rt staticlib volume
-	cargo run --release --offline --quiet --manifest-path host/sangueko/Cargo.toml --example compare -- --calls 1000000
+	cargo run --release --offline --quiet --manifest-path host/sangueko/Cargo.toml --example compare -- $(if $(REPLAY),--replay $(REPLAY),--seed $(SEED) --calls $(CALLS))
 
 # The proved functions against plain Rust and the calls against the published Rust, as ratios.
 bench:
