@@ -10,13 +10,17 @@ use native.Mathlib.Decide.{ℕ-discrete, decLt}
 use native.Mathlib.Omega.{arith}
 use borrow.Author.Tests.{eqb-true, eq-eqb, ltb-true, lt-ltb, leb-true, le-leb}
 use lib.Dec.{eqb, ltb, leb}
-use lib.ListN.{length, getD, length-map}
-use Rattle.rules.specs.Lists.{maybe, range, find}
+use lib.ListN.{length, take, getD, length-map}
+use lib.Seq.{length-take-le, getD-take}
+use Rattle.rules.specs.Lists.{maybe, find}
 use Rattle.rules.specs.Extent.{Extent, extentBytes, decodeExtent, extentEnd, covers, blockOf, mapping}
-use Rattle.rules.proofs.ListLaws.{test-cases, clash, and-left, and-right, and-intro, or-cases, or-left, or-right, all-at, length-range, getD-map-range, find-yes, find-no, each-at}
+use Rattle.rules.proofs.ListLaws.{test-cases, clash, and-left, and-right, and-intro, or-cases, or-left, or-right, all-at, getD-map, find-yes, find-no, each-at}
 use Rattle.rules.proofs.BookLaws.{length-decodeBook}
 use Rattle.history.proofs.ApartLaws.{Pairs, pairs-none, pairs-more, Ahead, other, same, Laid, laid-of}
 use Rattle.history.proofs.MappingLaws.{Covers, covers-not}
+use Rattle.format.specs.declared.extent.Extent.{Extent as ExtentStruct}
+use Rattle.format.specs.Records.{extentOf}
+use Rattle.held.specs.Held.{noExtent}
 use Rattle.book.specs.Places.{recordAt}
 use Rattle.book.proofs.SearchLaws.{record-at}
 use Rattle.mapping.specs.Entries.{extentsIn, ExtentsRight}
@@ -229,18 +233,19 @@ module _ {m n : ℕ} {s : List ℕ} (r : ExtentsRight m n s) where
         go v (no q) = behind v (ahead-at (place + k) j (omega arith) c)
 
     -- so the held extents map a stretch as the book does
-    pub held-mapping : (first k b : ℕ) (a : List ℕ) → StretchFrom object first n s place → HeldAhead object limit n s place a k → first ≤ b → b < limit
-        → mapping (heldOf object k a) object b ≡ mapping (extentsIn n s) object b
-    unfolding mapping heldOf
+    pub held-mapping : (first k b : ℕ) (a : List ExtentStruct) → StretchFrom object first n s place → HeldAhead object limit n s place a k → first ≤ b → b < limit
+        → mapping (heldOf k a) object b ≡ mapping (extentsIn n s) object b
+    unfolding mapping heldOf heldAt
     held-mapping first k b a f h l u =
         let es : List Extent = extentsIn n s in
         let d : Extent = decodeExtent [] in
         let len : length es ≡ n = length-decodeBook decodeExtent extentBytes n s in
-        let hl : length (map (heldAt object a) (range 0 k)) ≡ k = length-map (range 0 k) (heldAt object a) ∙ length-range 0 k in
-        let e : (i : ℕ) → i < k → getD (map (heldAt object a) (range 0 k)) i d ≡ getD es (place + i) d =
-        λ i m. getD-map-range (heldAt object a) 0 k i d m ∙ ap (heldAt object a) (let z : 0 + i ≡ i = omega arith in z) ∙ h .same i m ∙ sym (record-at decodeExtent extentBytes s n (place + i) d (omega (arith, h .within))) in
+        let tl : length (take k a) ≡ k = length-take-le k a (h .room) in
+        let hl : length (map extentOf (take k a)) ≡ k = length-map (take k a) extentOf ∙ tl in
+        let e : (i : ℕ) → i < k → getD (map extentOf (take k a)) i d ≡ getD es (place + i) d =
+        λ i m. getD-map extentOf (take k a) i d noExtent (omega arith) ∙ ap extentOf (getD-take k a i noExtent m) ∙ h .same i m ∙ sym (record-at decodeExtent extentBytes s n (place + i) d (omega (arith, h .within))) in
         ap (maybe none (λ x. some (blockOf b x)))
-        (sym (find-middle (covers object b) d es place (map (heldAt object a) (range 0 k)) (omega (arith, h .within))
+        (sym (find-middle (covers object b) d es place (map extentOf (take k a)) (omega (arith, h .within))
         (λ i m. e i (omega arith))
         (λ j m. ap (covers object b) (record-at decodeExtent extentBytes s n j d (omega (arith, f .most))) ∙ under-covers object first b _ l (under-true object first _ (f .front j m)))
         (λ j m c. ap (covers object b) (record-at decodeExtent extentBytes s n j d (omega arith)) ∙ past-held first k b f (h .stops) u j (omega arith) (omega arith))))

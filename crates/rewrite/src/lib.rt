@@ -5,7 +5,7 @@
 ghost use mathlib.Core.Path.{_≡_};
 ghost use mathlib.Core.Bool.{Bool, true, false};
 ghost use mathlib.Core.List.{List};
-ghost use Prim.Native.Nat.{ℕ, _+_, _*_, _^_, _≤_, _<_};
+ghost use Prim.Native.Nat.{ℕ, _+_, _-_, _*_, _^_, _≤_, _<_};
 ghost use lib.ListN.{length, take, getD};
 ghost use Rattle.rules.specs.Bytes.{part};
 ghost use Rattle.rules.specs.Sizes.{unitBytes, unitBlocks, mostBlocks, mostAllocated};
@@ -22,6 +22,7 @@ ghost use Rattle.rewrite.specs.Steps.{oldAs};
 ghost use Rattle.rewrite.specs.Arguments.{Described, LookedUp, PlanFor, BlocksOf, DeviceFits, ArraysFit};
 ghost use Rattle.rewrite.specs.Given.{Gives, Lays};
 ghost use Rattle.rewrite.specs.Answers.{fromCard, Carries, ChangedAt, UnitPlanned, UnitsPlanned};
+use format::card::Card;
 use format::sizes::UNIT_BLOCKS;
 
 // Refusal 13: too few blocks are free.
@@ -167,11 +168,28 @@ fn refused(number: u32, progress: Progress) -> UnitPlan
     }
 }
 
+// The blocks that the file's card counts after a unit: the card is changed in place. Its time is not known here, and is set where it is written.
+fn counted(object: u64, size: u64, allocated: u64, gone: u64, given: u64) -> u64
+    requires { ⌜ (gone ≤ allocated) × (allocated + given < 2 ^ 64) ⌝ }
+    ensures { λ r. ⌜ r ≡ allocated - gone + given ⌝ }
+{
+    let card = Card {
+        object,
+        size,
+        allocated,
+        seconds: 0,
+        nanoseconds: 0,
+    };
+    let after = count::card_after(card, gone, given);
+    after.allocated
+}
+
 // The new mapping of a unit whose old blocks are `old`, and refusals 13 and 14: which it keeps, which it is given, and what the next unit finds.
 fn lay_out(
     map: &mut [u8],
     total: u64,
     limit: usize,
+    object: u64,
     change: Change,
     unit: u64,
     verified: bool,
@@ -207,7 +225,7 @@ fn lay_out(
     if allocated < gone {
         return refused(COUNT_DISAGREES, progress);
     }
-    let count = allocated - gone + g.count as u64;
+    let count = counted(object, change.new_size, allocated, gone, g.count as u64);
     if MOST_ALLOCATED < count {
         return refused(COUNT_DISAGREES, progress);
     }
@@ -263,6 +281,7 @@ fn rewrite_unit(
             map,
             total,
             limit,
+            object,
             change,
             unit,
             false,
@@ -275,6 +294,7 @@ fn rewrite_unit(
             map,
             total,
             limit,
+            object,
             change,
             unit,
             true,

@@ -46,8 +46,8 @@ same-length-6 c = search needs
 returns-2 : tie.Need-returns-2
 returns-2 c = ((c .refused2 .ensures .1, omega (arith, c .refused2 .ensures .2, c .before .before .before .before .before .before .before .before .before .before .before .before .before .before .before .before .before .before .before .before .before .before .pre .1 .1 .0 .1)), (λ k used taken h f. lays-fewer _ used taken _ _ _ k _ _ _ _ _ _ _ _ _ (c .before .before .before .before .before .before .before .before .before .before .before .before .before .before .before .before .retained-blocks .ensures .1 k h) (c .before .before .before .before .before .before .before .before .before .before .give-blocks .ensures .1 used taken f) (c .before .before .before .before .if1 .left) _ (c .before .before .count-superseded .ensures .0) (omega arith) (c .refused2 .ensures .0)))
 
-add-count : tie.Need-add-count
-add-count c = omega (arith, c .before .before .before .before .before .before .before .before .before .give-blocks .ensures .0, c .before .before .before .before .before .before .before .before .before .before .before .before .before .before .before .before .before .before .before .before .before .pre .1 .1 .0 .1)
+counted-requires : tie.Need-counted-requires
+counted-requires c κs = (omega arith, omega (arith, c .before .before .before .before .before .before .before .before .before .give-blocks .ensures .0, c .before .before .before .before .before .before .before .before .before .before .before .before .before .before .before .before .before .before .before .before .before .pre .1 .1 .0 .1))
 
 refused-requires-3 : tie.Need-refused-requires-3
 refused-requires-3 c κs = search needs
@@ -62,7 +62,7 @@ same-length-9 : tie.Need-same-length-9
 same-length-9 c = search needs
 
 returns-3 : tie.Need-returns-3
-returns-3 c = ((c .refused3 .ensures .1, omega (arith, c .refused3 .ensures .2, c .before .before .before .before .before .before .before .before .before .before .before .before .before .before .before .before .before .before .before .before .before .before .before .pre .1 .1 .0 .1)), (λ k used taken h f. lays-more _ used taken _ _ _ k _ _ _ _ _ _ _ _ _ (c .before .before .before .before .before .before .before .before .before .before .before .before .before .before .before .before .before .retained-blocks .ensures .1 k h) (c .before .before .before .before .before .before .before .before .before .before .before .give-blocks .ensures .1 used taken f) (c .before .before .before .before .before .if1 .left) _ (c .before .before .before .count-superseded .ensures .0) (omega arith) (c .refused3 .ensures .0)))
+returns-3 c = ((c .refused3 .ensures .1, omega (arith, c .refused3 .ensures .2, c .before .before .before .before .before .before .before .before .before .before .before .before .before .before .before .before .before .before .before .before .before .before .before .before .pre .1 .1 .0 .1)), (λ k used taken h f. lays-more _ used taken _ _ _ k _ _ _ _ _ _ _ _ _ (c .before .before .before .before .before .before .before .before .before .before .before .before .before .before .before .before .before .before .retained-blocks .ensures .1 k h) (c .before .before .before .before .before .before .before .before .before .before .before .before .give-blocks .ensures .1 used taken f) (c .before .before .before .before .before .before .if1 .left) _ (c .before .before .before .before .count-superseded .ensures .0) (omega arith) (c .refused3 .ensures .0)))
 
 same-length-10 : tie.Need-same-length-10
 same-length-10 c = search needs
@@ -74,7 +74,7 @@ same-length-12 : tie.Need-same-length-12
 same-length-12 c = search needs
 
 returns-4 : tie.Need-returns-4
-returns-4 c = ((refl, omega arith), (λ k used taken h f. lays-done _ used taken _ _ _ k _ _ _ _ _ _ _ _ _ (c .before .before .before .before .before .before .before .before .before .before .before .before .before .before .before .before .before .retained-blocks .ensures .1 k h) (c .before .before .before .before .before .before .before .before .before .before .before .give-blocks .ensures .1 used taken f) (c .before .before .before .before .before .if1 .left) _ (c .before .before .before .count-superseded .ensures .0) (omega arith) (omega arith) refl refl refl refl (omega (arith, c .before .before .before .before .before .before .before .before .before .before .before .before .before .before .before .before .before .retained-blocks .kept, c .before .before .before .before .before .before .before .before .before .before .before .before .before .before .before .before .before .before .before .before .before .before .before .pre .1 .1 .1 .1)) (c .before .before .before .before .before .before .before .before .before .before .before .before .before .before .before .before .before .retained-blocks .ensures .0)))
+returns-4 c = ((refl, omega arith), (λ k used taken h f. lays-done _ used taken _ _ _ k _ _ _ _ _ _ _ _ _ (c .before .before .before .before .before .before .before .before .before .before .before .before .before .before .before .before .before .before .retained-blocks .ensures .1 k h) (c .before .before .before .before .before .before .before .before .before .before .before .before .give-blocks .ensures .1 used taken f) (c .before .before .before .before .before .before .if1 .left) _ (c .before .before .before .before .count-superseded .ensures .0) (omega arith) (omega arith) refl refl (c .before .before .counted .ensures) refl (omega (arith, c .before .before .before .before .before .before .before .before .before .before .before .before .before .before .before .before .before .before .retained-blocks .kept, c .before .before .before .before .before .before .before .before .before .before .before .before .before .before .before .before .before .before .before .before .before .before .before .before .pre .1 .1 .1 .1)) (c .before .before .before .before .before .before .before .before .before .before .before .before .before .before .before .before .before .before .retained-blocks .ensures .0)))
 
 pub lay-out-spec : {M : Type 1} → statement M
 lay-out-spec =
@@ -93,7 +93,7 @@ lay-out-spec =
     same-length-5
     same-length-6
     returns-2
-    add-count
+    counted-requires
     refused-requires-3
     same-length-7
     same-length-8

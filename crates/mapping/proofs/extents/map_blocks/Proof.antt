@@ -14,26 +14,20 @@ first-from-requires c κs = search needs
 add-limit : tie.Need-add-limit
 add-limit c = search needs
 
-slice-aggregate-hold-ahead : tie.Need-slice-aggregate-hold-ahead
-slice-aggregate-hold-ahead c = search needs
-
 hold-ahead-requires : tie.Need-hold-ahead-requires
 hold-ahead-requires c κs =
-    (c .before .before .before .before .pre .0, ((c .before .first-from .ensures .most, refl), room-ahead (c .before .before .before .before .pre .0) _ _ _ _ (c .before .before .before .before .pre .1 .0) refl (c .before .first-from .ensures)))
-
-slice-aggregate-map-held : tie.Need-slice-aggregate-map-held
-slice-aggregate-map-held c = search needs
+    (c .before .before .before .pre .0, (c .first-from .ensures .most, room-ahead (c .before .before .before .pre .0) _ _ _ _ (c .before .before .before .pre .1 .0) refl (c .first-from .ensures)))
 
 map-held-requires : tie.Need-map-held-requires
-map-held-requires c κs = (held-right (c .before .before .before .before .before .before .before .before .pre .0) _ _ _ _ (c .before .before .before .hold-ahead .ensures), omega arith)
+map-held-requires c κs = (held-right (c .before .before .before .before .before .before .pre .0) _ _ _ _ (c .before .before .hold-ahead .ensures), omega arith)
 
 same-length : tie.Need-same-length
 same-length c = search needs
 
 returns : tie.Need-returns
 returns c =
-    let e = stretch-mapped (c .before .before .before .before .before .before .before .before .before .before .before .pre .0) _ _ _ _ _ _ _ refl (c .before .before .before .before .before .before .before .before .first-from .ensures) (c .before .before .before .before .before .before .hold-ahead .ensures) (c .before .before .map-held .ensures) in
-    (e, mapped-most _ _ _ _ _ _ _ (c .before .before .before .before .before .before .before .before .before .before .before .pre .0) e)
+    let e = stretch-mapped (c .before .before .before .before .before .before .before .before .before .pre .0) _ _ _ _ _ _ _ refl (c .before .before .before .before .before .before .first-from .ensures) (c .before .before .before .before .before .hold-ahead .ensures) (c .before .before .map-held .kept .1 .1 .1 .1 .0) (c .before .before .map-held .ensures) in
+    (e, mapped-most _ _ _ _ _ _ _ (c .before .before .before .before .before .before .before .before .before .pre .0) e)
 
 pub map-blocks-spec : {M : Type 1} → statement M
 map-blocks-spec =
@@ -41,9 +35,7 @@ map-blocks-spec =
     (tie.spec
     first-from-requires
     add-limit
-    slice-aggregate-hold-ahead
     hold-ahead-requires
-    slice-aggregate-map-held
     map-held-requires
     same-length
     returns)

@@ -1,0 +1,2 @@
+pub mod LendArray
+pub mod SearchLaws
