@@ -4,9 +4,10 @@ use std::fmt;
 use std::io;
 use std::path::{Path, PathBuf};
 
-use sangueko::Refusal;
+use sangueko::{MOST_BLOCKS, MOST_PLACES, Refusal};
 
 use crate::diagnose::Finding;
+use crate::words::grouped;
 
 /// The exit codes above the refusals; the first three are those of sysexits.h.
 pub const USAGE: u8 = 64;
@@ -25,6 +26,8 @@ pub enum Failure {
         refusal: Refusal,
         finding: Option<Finding>,
     },
+    /// The library refused to make a store, and what was asked for.
+    Unmade { refusal: Refusal, wanted: String },
     /// The folder is not a store, or cannot become one.
     NoStore(String),
     /// The system failed, and what to do next.
@@ -72,7 +75,7 @@ impl Failure {
         match self {
             Self::Usage(_) => USAGE,
             // at most 16
-            Self::Refused { refusal, .. } => refusal.number() as u8,
+            Self::Refused { refusal, .. } | Self::Unmade { refusal, .. } => refusal.number() as u8,
             Self::NoStore(_) => NO_STORE,
             Self::System { .. } | Self::Journal { .. } | Self::Closed => INPUT_OUTPUT,
             Self::Locked(_) => LOCKED,
@@ -110,6 +113,14 @@ impl fmt::Display for Failure {
                     None => Ok(()),
                 }
             }
+            Self::Unmade { refusal, wanted } => write!(
+                f,
+                "new: refused by {}: a store has 1 to {} blocks, of which no more can be reserved than there are, \
+                 and at most {} places in each book; asked for were {wanted}",
+                refusal.number(),
+                grouped(MOST_BLOCKS),
+                grouped(MOST_PLACES)
+            ),
             Self::System { doing, error, next } => write!(f, "{doing}: {error}: {next}"),
             Self::Locked(folder) => write!(
                 f,

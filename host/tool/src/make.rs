@@ -1,6 +1,7 @@
 //! `new`: a store made whole or not at all.
 
 use std::ffi::OsString;
+use std::fmt;
 use std::fs::{self, File};
 use std::io::{self, Read, Write};
 use std::os::unix::fs::MetadataExt;
@@ -11,12 +12,32 @@ use sangueko::{Places, Refusal, StoreBuf};
 use crate::buffer::Buffer;
 use crate::failure::Failure;
 use crate::lock::{self, Kind, LOCK, Wait};
+use crate::words::{counted, grouped};
 
 pub struct Wanted {
     pub blocks: usize,
     pub reserved: u64,
     pub places: Places,
     pub uuid: [u8; 16],
+}
+
+impl fmt::Display for Wanted {
+    fn fmt(&self, f: &mut fmt::Formatter<'_>) -> fmt::Result {
+        let Places {
+            cards,
+            extents,
+            groups,
+        } = self.places;
+        write!(
+            f,
+            "{}, {} reserved, and places for {}, {} and {}",
+            counted(self.blocks, "block"),
+            grouped(self.reserved),
+            counted(cards, "card"),
+            counted(extents, "extent"),
+            counted(groups, "group")
+        )
+    }
 }
 
 pub fn random_uuid() -> Result<[u8; 16], Failure> {
@@ -33,7 +54,10 @@ pub fn random_uuid() -> Result<[u8; 16], Failure> {
 /// room for every later call but its journal, and a full disk stops a call before
 /// it counts.
 pub fn make(folder: &Path, wanted: &Wanted) -> Result<(), Failure> {
-    let refused = |refusal: Refusal| Failure::refused("new", refusal, None);
+    let refused = |refusal: Refusal| Failure::Unmade {
+        refusal,
+        wanted: wanted.to_string(),
+    };
     let mut store = StoreBuf::new(wanted.blocks, wanted.places).map_err(refused)?;
     store
         .lend()

@@ -26,7 +26,7 @@ pub fn svg(records: &Records<'_>, per_mille: u64) -> String {
          font-family=\"sans-serif\" font-size=\"13\">\n<rect width=\"100%\" height=\"100%\" fill=\"#ffffff\"/>\n",
         WIDTH + 2 * MARGIN
     );
-    headline(&mut text, &measures, per_mille);
+    headline(&mut text, &measures, &kinds, per_mille);
     squares(&mut text, records, &kinds, columns, side, top);
     for (at, (kind, says)) in entries.iter().enumerate() {
         let y = legend + at * LINE;
@@ -50,7 +50,7 @@ fn columns(blocks: usize) -> usize {
         .unwrap_or(256)
 }
 
-fn headline(text: &mut String, measures: &Measures, per_mille: u64) {
+fn headline(text: &mut String, measures: &Measures, kinds: &[Kind], per_mille: u64) {
     let _ = writeln!(
         text,
         "<text x=\"{MARGIN}\" y=\"{}\" font-size=\"16\">{}, {}.{} % used; {}</text>",
@@ -60,15 +60,8 @@ fn headline(text: &mut String, measures: &Measures, per_mille: u64) {
         per_mille % 10,
         measures.scatter()
     );
-    let parts = [
-        (Kind::Reserved, measures.reserved),
-        (Kind::File(0), measures.files),
-        (Kind::Stray, measures.wrong),
-        (Kind::Retired, measures.retired),
-        (Kind::Free, measures.free),
-    ];
     let (mut blocks, mut drawn) = (0, 0);
-    for (kind, number) in parts {
+    for (kind, number) in parts(kinds) {
         blocks += number;
         let end = blocks * WIDTH / measures.blocks.max(1);
         rect(
@@ -80,6 +73,24 @@ fn headline(text: &mut String, measures: &Measures, per_mille: u64) {
         );
         drawn = end;
     }
+}
+
+/// The blocks of each kind, what cannot be had first; every file is a part of its
+/// own, in the colour that it has below.
+fn parts(kinds: &[Kind]) -> Vec<(Kind, usize)> {
+    let order = |kind: &Kind| match *kind {
+        Kind::Reserved => (0, 0),
+        Kind::File(index) => (1, index),
+        Kind::Shared | Kind::Stray => (2, 0),
+        Kind::Retired => (3, 0),
+        Kind::Free => (4, 0),
+    };
+    let mut sorted = kinds.to_vec();
+    sorted.sort_by_key(order);
+    sorted
+        .chunk_by(|a, b| order(a) == order(b))
+        .filter_map(|same| same.first().map(|kind| (*kind, same.len())))
+        .collect()
 }
 
 /// Blocks of one kind that adjoin in a row are one rectangle.

@@ -212,6 +212,9 @@ fn show_draws_the_layout_store() {
     done(&["show", folder, "--svg", svg.to_str().unwrap()]);
     let svg = fs::read_to_string(svg).unwrap();
     assert!(svg.starts_with("<svg ") && svg.ends_with("</svg>\n"));
+    // the bar: of 768, one reserved block of 8, then the file's five
+    let bar = "<rect x=\"112\" y=\"36\" width=\"480\" height=\"20\" fill=\"#4285f4\"";
+    assert!(svg.contains(bar), "{svg}");
     assert!(
         svg.contains("<title>file 7: blocks 1 to 4</title>"),
         "{svg}"
@@ -240,7 +243,13 @@ fn the_exit_code_is_the_refusal() {
     let temporary = Temporary::new();
     let store = temporary.path("store");
     let folder = store.to_str().unwrap();
-    assert!(refused(&["new", folder, "--blocks", "0"], 1).contains("refused by 1"));
+    let says = refused(&["new", folder, "--blocks", "70000"], 1);
+    assert!(
+        says.contains("refused by 1") && says.contains("1 to 65,536 blocks"),
+        "{says}"
+    );
+    assert!(says.contains("asked for were 70,000 blocks"), "{says}");
+    refused(&["new", folder, "--blocks", "0"], 1);
     refused(&["new", folder, "--blocks", "8", "--reserved", "9"], 1);
     assert!(!store.exists());
     done(&[
