@@ -1,21 +1,20 @@
--- The calls on a file, read, write and grow: what an accepted one did, and what is left to show that "2, 9 to 12 and 14" do not come.
+-- The calls that change a file, write and grow: what an accepted one did, and what is left to show that "2, 9 to 12 and 14" do not come.
 -- Assumes nothing.
 use mathlib.Core.Path.{_≡_, refl}
 use mathlib.Core.Logic.{_⊎_, inl, inr}
-use mathlib.Core.List.{List, [], _++_}
+use mathlib.Core.List.{List, []}
 use mathlib.Core.Bool.{false}
 use mathlib.Core.Option.{some}
-use Prim.Native.Nat.{ℕ, _+_, _%_, _≤_, _<_}
+use Prim.Native.Nat.{ℕ, _+_, _≤_, _<_}
 use native.Mathlib.Omega.{arith}
 use lib.Dec.{eqb}
-use lib.ListN.{length, drop}
+use lib.ListN.{length}
 use borrow.Author.Tests.{eqb-true, eqb-false, ltb-false}
 use Rattle.rules.specs.Time.{Time}
 use Rattle.rules.specs.Integrity.{storeCases}
 use Rattle.rules.specs.Book.{bookPlaces}
 use Rattle.rules.specs.Lists.{any, member}
-use Rattle.rules.specs.Sizes.{unitBytes, mostSize, mostRuns}
-use Rattle.rules.specs.Bytes.{part}
+use Rattle.rules.specs.Sizes.{mostSize, mostRuns}
 use Rattle.rules.specs.Card.{Card}
 use Rattle.rules.specs.Extent.{extentBytes}
 use Rattle.rules.specs.Group.{groupBytes}
@@ -23,17 +22,14 @@ use Rattle.rules.specs.Store.{Store, Volume, decode, encodeInto, cardOf}
 use Rattle.rules.specs.Refusal.{Refusal, Outcome, numberOf, firstOf, result}
 use Rattle.rules.specs.Refusal.Refusal.{no-card}
 use Rattle.rules.specs.Refusal.Outcome.{refuse, accept}
-use Rattle.rules.specs.Units.{Change, clipped, writeChange, growChange, unitsOf, writeUnits, growUnits}
+use Rattle.rules.specs.Units.{Change, clipped, writeChange, growChange, writeUnits, growUnits}
 use Rattle.rules.specs.Rewrite.{Rewritten, Progress, Plan}
 use Rattle.rules.specs.Rewrite.Plan.{refused, planned}
 use Rattle.rules.specs.Finish.{finished}
 use Rattle.rules.specs.Arguments.{pastLimit, belowSize, withCard}
 use Rattle.rules.specs.Write.{groupsFull, extentsFull, fitCases, planOf, carriedOut, writeFile, writeOutcome, growFile, growOutcome}
-use Rattle.rules.specs.Read.{Checked, readLength, checkUnits, handOut, readUnits, readFile, readOutcome}
-use Rattle.rules.specs.Read.Checked.{failed, bytes}
 use Rattle.rules.specs.Call.{call}
-use Rattle.rules.specs.Call.Look.{read}
-use Rattle.rules.specs.Call.Call.{grow, look}
+use Rattle.rules.specs.Call.Call.{grow}
 use Rattle.rules.specs.Demand.{neverNumbers}
 use Rattle.rules.proofs.ListLaws.{if-cases, maybe-cases, each-none, each-more}
 use Rattle.rules.proofs.PassLaws.{Passes}
@@ -59,32 +55,6 @@ file-call s out object next D h =
     accepted-cases s out (FileCall s object D) (storeCases s) _
     (λ n. maybe-cases (λ o. result s out o .number ≡ 0 → FileCall s object D o) (refuse no-card) next (cardOf (decode s) object)
     (λ q e. absurd (never-zero s out no-card e)) (λ c q e. record { passes = store-passes s n; card = c; known = q; done = h c e }))
-
--- the bytes that a read got: of its units checked, or none where it gets none
-pub record ReadBytes (offset : ℕ) (out : List ℕ) (s : Store) (c : Card) (o : Outcome) : Type 0 where
-  pub found : List ℕ
-  pub some : readLength (c .size) offset (length out) ≡ 0 → ⊥
-  pub checked : checkUnits (decode s) (c .object) (c .size) (unitsOf offset (offset + readLength (c .size) offset (length out))) ≡ bytes found
-  pub done : o ≡ accept (readLength (c .size) offset (length out)) s
-      (part (offset % unitBytes) (readLength (c .size) offset (length out)) found ++ drop (readLength (c .size) offset (length out)) out)
-
--- bytes were handed out
-hand-out : (from n : ℕ) (s : Store) (out : List ℕ) (k : Checked) → result s out (handOut from n s out k) .number ≡ 0
-    → (xs : List ℕ) × (k ≡ bytes xs) × (handOut from n s out k ≡ accept n s (part from n xs ++ drop n out))
-unfolding handOut
-hand-out from n s out (failed r) e = absurd (never-zero s out r e)
-hand-out from n s out (bytes xs) e = (xs, refl, refl)
-
--- an accepted read of a file
-pub read-file : (offset : ℕ) (out : List ℕ) (s : Store) (c : Card) → result s out (readFile offset s out c) .number ≡ 0
-    → ((readLength (c .size) offset (length out) ≡ 0) × (readFile offset s out c ≡ accept 0 s out)) ⊎ ReadBytes offset out s c (readFile offset s out c)
-unfolding readFile readUnits
-read-file offset out s c =
-    let n : ℕ = readLength (c .size) offset (length out) in
-    if-cases (λ o. result s out o .number ≡ 0 → ((n ≡ 0) × (o ≡ accept 0 s out)) ⊎ ReadBytes offset out s c o) (eqb n 0) (accept 0 s out) _
-    (λ q e. inl (eqb-true n 0 q, refl))
-    (λ q e. let h = hand-out (offset % unitBytes) n s out (checkUnits (decode s) (c .object) (c .size) (unitsOf offset (offset + n))) e in
-    inr (record { found = h .0; some = eqb-false n 0 q; checked = h .1; done = h .2 }))
 
 -- the planned units were carried out: the finished books fit, and the finished volume is what the buffers say
 pub record Carried (answer : ℕ) (c : Change) (time : Time) (s : Store) (k : Plan) (o : Outcome) : Type 0 where
@@ -169,12 +139,6 @@ grow-file size time s c =
       carried = carried 0 w time s k e;
     }))))
 
--- an accepted read
-pub read-accepted : (object offset : ℕ) (out : List ℕ) (s : Store) → call (look (read object offset out)) s .number ≡ 0
-    → FileCall s object (λ c o. ((readLength (c .size) offset (length out) ≡ 0) × (o ≡ accept 0 s out)) ⊎ ReadBytes offset out s c o) (readOutcome object offset out s)
-unfolding call readOutcome
-read-accepted object offset out s = file-call s out object (readFile offset s out) _ (read-file offset out s)
-
 -- an accepted write, with any limit of runs
 pub write-accepted : (limit object offset : ℕ) (xs : List ℕ) (time : Time) (s : Store) → result s [] (writeOutcome limit object offset xs time s) .number ≡ 0
     → FileCall s object (λ c o. ((length xs ≡ 0) × (o ≡ accept 0 s [])) ⊎ Written limit offset xs time s c o) (writeOutcome limit object offset xs time s)
@@ -196,12 +160,6 @@ unfolding withCard result numberOf member any
 never-file s out object next p h =
     rw (goes-on s (withCard (decode s) object next) p) (maybe-cases (Never s out) (refuse no-card) next (cardOf (decode s) object) (λ q. refl) h)
 
--- of units that were checked: no unit fails
-never-hand : (from n : ℕ) (s : Store) (out : List ℕ) (k : Checked) → ((r : Refusal) → k ≡ failed r → ⊥) → Never s out (handOut from n s out k)
-unfolding handOut result member any
-never-hand from n s out (failed r) h = absurd (h r refl)
-never-hand from n s out (bytes xs) h = refl
-
 -- of a plan: no unit is refused with them
 never-carried : (answer : ℕ) (c : Change) (time : Time) (s : Store) (k : Plan) → ((r : Refusal) → k ≡ refused r → member (numberOf r) neverNumbers ≡ false)
     → Never s [] (carriedOut answer c time s k)
@@ -210,17 +168,6 @@ never-carried answer c time s (refused r) h = h r refl
 never-carried answer c time s (planned rs p) h = firstOf-cases (Never s []) _ (each-more (λ e. refl) (each-more (λ e. refl) each-none)) (λ n. refl)
 
 module _ (s : Store) (p : Passes s) where
-  -- read: no unit that it checks fails
-  pub never-read : (object offset : ℕ) (out : List ℕ)
-      → ((c : Card) → cardOf (decode s) object ≡ some c → (readLength (c .size) offset (length out) ≡ 0 → ⊥)
-      → (r : Refusal) → checkUnits (decode s) (c .object) (c .size) (unitsOf offset (offset + readLength (c .size) offset (length out))) ≡ failed r → ⊥)
-      → member (call (look (read object offset out)) s .number) neverNumbers ≡ false
-  unfolding call readOutcome readFile readUnits result member any
-  never-read object offset out h =
-      never-file s out object (readFile offset s out) p (λ c q.
-      if-cases (Never s out) (eqb (readLength (c .size) offset (length out)) 0) (accept 0 s out) _
-      (λ z. refl) (λ z. never-hand _ _ s out _ (h c q (eqb-false (readLength (c .size) offset (length out)) 0 z))))
-
   -- write, with any limit of runs: no unit of its plan is refused with them
   pub never-write : (limit object offset : ℕ) (xs : List ℕ) (time : Time)
       → ((c : Card) → cardOf (decode s) object ≡ some c → (length xs ≡ 0 → ⊥) → offset + length (clipped xs) ≤ mostSize → TimeRight time

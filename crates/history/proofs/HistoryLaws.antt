@@ -36,7 +36,7 @@ not-refused : (r : Result) → r .number ≡ 0 → wasRefused r ≡ false
 unfolding wasRefused
 not-refused r e = ap not (eq-eqb (r .number) 0 e)
 
--- one with a number of document 01's was
+-- one with a number of the documents' was
 was-refused : (r : Result) → Numbered (r .number) → wasRefused r ≡ true
 unfolding wasRefused
 was-refused r n = ap not (ne-eqb (r .number) 0 (λ e. omega (arith, n .least, e)))

@@ -1,10 +1,10 @@
 -- What every call keeps, from which demand 3's claim follows: the plain arrays and the files say the same. Shown here for fresh, enter, settle, fill
--- and read; of write and grow it is left as a premise that they keep it and are not refused with "2, 9 to 12 and 14".
+-- and reads; of write and grow it is left as a premise that they keep it and are not refused with "2, 9 to 12 and 14".
 -- Assumes nothing.
 use mathlib.Core.Path.{_≡_, refl, sym, ap, subst, _∙_}
 use mathlib.Core.List.{List, [], _∷_, flatMap, List·Memᴰ, List·Memᴰ·not-nil}
 use mathlib.Core.Bool.{false}
-use mathlib.Core.Option.{Option, none, some, Option·some-injective, Option·none-ne-some}
+use mathlib.Core.Option.{none, some, Option·some-injective, Option·none-ne-some}
 use Prim.Native.Nat.{ℕ, _*_, _≤_, _<_}
 use native.Mathlib.Decide.{ℕ-discrete}
 use native.Mathlib.Omega.{arith}
@@ -24,10 +24,10 @@ use Rattle.rules.specs.Fresh.{freshVolume}
 use Rattle.rules.specs.Enter.{newCard, entered}
 use Rattle.rules.specs.Settle.{settled}
 use Rattle.rules.specs.Call.{Look, Call, InRange, call}
-use Rattle.rules.specs.Call.Look.{read, fill}
+use Rattle.rules.specs.Call.Look.{read, readMany, fill}
 use Rattle.rules.specs.Call.Call.{fresh, enter, write, grow, settle, look}
 use Rattle.rules.specs.Plain.{File, accepted, fileBytes}
-use Rattle.rules.specs.Demand.{givenReserved, placesOf, places, holders, filePlaces, neverNumbers, PlainAnswer, Sound, Demand3}
+use Rattle.rules.specs.Demand.{givenReserved, placesOf, places, holders, filePlaces, neverNumbers, Sound, Demand3}
 use Rattle.rules.proofs.ListLaws.{given-some, maybe-some, find-yes, find-no, find-none}
 use Rattle.rules.proofs.PassLaws.{Passes, Lawful, Says, lawful-decode, room-decode}
 use Rattle.rules.proofs.FreshLaws.{fresh-says}
@@ -35,8 +35,8 @@ use Rattle.rules.proofs.EnterLaws.{NoCard, card-entered, card-other, enter-acce
 use Rattle.rules.proofs.SettleLaws.{settle-says, look-stays}
 use Rattle.history.proofs.HistoryLaws.{Never, demand3-from, never-fresh, never-enter, settle-number, fill-number, fresh-holders}
 use Rattle.history.proofs.HolderLaws.{SameFiles, inspect-same, files-entered, holders-settled, holders-entered, counts-entered}
-use Rattle.history.proofs.FileCallLaws.{read-accepted}
-use Rattle.history.proofs.ReadLaws.{ObjectIs, read-plain, read-never}
+use Rattle.history.proofs.ReadLaws.{ObjectIs, AllKnown, read-plain, read-never}
+use Rattle.history.proofs.ReadManyLaws.{many-plain, many-never}
 
 -- a unit at or past the end of its file, or of no file
 abbrev pub Past : Volume → ℕ → ℕ → Type 0
@@ -218,14 +218,9 @@ pub known-object : (files : List File) (reserved : ℕ) (s : Store) → Inv file
 unfolding given
 known-object files reserved s h object c q = given-some (fileBytes files object) (h .filesAgree .objects object ∙ ap given q)
 
--- no read is refused with "2, 9 to 12 and 14"
-never-inv-read : (files : List File) (reserved : ℕ) (s : Store) → Inv files reserved s → (object offset : ℕ) (out : List ℕ)
-    → member (call (look (read object offset out)) s .number) neverNumbers ≡ false
-never-inv-read files reserved s h object offset out = go (fileBytes files object) refl
-  where
-    go : (o : Option (List ℕ)) → fileBytes files object ≡ o → member (call (look (read object offset out)) s .number) neverNumbers ≡ false
-    go none e = read-never s object [] (λ c q. absurd (let k = known-object files reserved s h object c q in Option·none-ne-some (k .0) (sym e ∙ k .1))) offset out (h .passes)
-    go (some xs) e = read-never s object xs (h .filesAgree .bytes object xs e) offset out (h .passes)
+-- no other object is, and each says its bytes
+all-known : (files : List File) (reserved : ℕ) (s : Store) → Inv files reserved s → AllKnown files (decode s)
+all-known files reserved s h object = (h .filesAgree .objects object, h .filesAgree .bytes object)
 
 -- what is left to show of write, with any limit of runs, and of grow
 pub record ChangesRight : Type 0 where
@@ -243,7 +238,8 @@ pub record ChangesRight : Type 0 where
 -- the calls that leave the store are not refused with "2, 9 to 12 and 14"
 never-look : (files : List File) (reserved : ℕ) (s : Store) → Inv files reserved s → (l : Look) → member (call (look l) s .number) neverNumbers ≡ false
 unfolding member any
-never-look files reserved s h (read object offset out) = never-inv-read files reserved s h object offset out
+never-look files reserved s h (read object offset out) = read-never files s (all-known files reserved s h) object offset out (h .passes)
+never-look files reserved s h (readMany list out) = many-never files s (all-known files reserved s h) (h .passes) list out
 never-look files reserved s h fill = ap (λ n. member n neverNumbers) (fill-number s (h .passes))
 
 module _ (w : ChangesRight) where
@@ -271,17 +267,12 @@ module _ (w : ChangesRight) where
   -- the claim
   sound : (files : List File) (reserved : ℕ) (s : Store) → StoreBytes s → Inv files reserved s → Sound files reserved s
   sound files reserved s b h = record {
-    reads = λ object offset out i e. reads object offset out e;
+    reads = λ object offset out i e. read-plain files s (all-known files reserved s h) object offset out (h .passes) e;
+    readsMany = λ list out i e. many-plain files s (all-known files reserved s h) (h .passes) list out e;
     onePlace = λ b l. h .blocksAgree .onePlace b (rw (room-decode s (h .passes) .blocks) l);
     counts = h .filesAgree .counts;
     never = never-refused files reserved s b h;
   }
-    where
-      reads : (object offset : ℕ) (out : List ℕ) → call (look (read object offset out)) s .number ≡ 0 → PlainAnswer files object offset out (call (look (read object offset out)) s)
-      reads object offset out e =
-          let r = read-accepted object offset out s e in
-          let k = known-object files reserved s h object (r .card) (r .known) in
-          read-plain s object (k .0) (h .filesAgree .bytes object (k .0) (k .1)) offset out files (k .1) e
 
   -- demand 3, from what is left of write and grow
   pub demand3-from-changes : Demand3

@@ -7,6 +7,7 @@
 --                      settle and the calls that leave the store are shown here, with
 --   HolderLaws         what enter and settle do to the holders of blocks and to the places of files
 --   ReadLaws           a read from its units: each unit, read, is what the plain array has there
+--   ReadManyLaws       many reads in one call, from that law of one read
 --   Changes            write and grow, which `Invariant` leaves as a premise. An accepted one has a plan (FileCallLaws); then come
 --
 -- What the plan says:
@@ -33,6 +34,7 @@ pub mod HistoryLaws
 pub mod Invariant
 pub mod HolderLaws
 pub mod ReadLaws
+pub mod ReadManyLaws
 pub mod Changes
 pub mod FileCallLaws
 pub mod ChangeLaws

@@ -1,36 +1,41 @@
 -- A read gives the plain array's bytes where each unit of the file, read, is what the array has there: demand 3's claim of reads from one of units.
+-- One read is told apart from its call (`read-one`), for a call of many reads does the same with each.
 -- Assumes nothing.
 use mathlib.Core.Path.{_≡_, refl, sym, ap, _∙_}
-use mathlib.Core.Logic.{_⊎_, inl, inr}
 use mathlib.Core.List.{List, _++_}
-use mathlib.Core.Bool.{false}
+use mathlib.Core.Bool.{true, false}
 use mathlib.Core.Option.{some}
 use Prim.Native.Nat.{ℕ, zero, suc, _+_, _-_, _*_, _/_, _%_, min, _≤_, _<_}
 use native.Mathlib.Omega.{arith}
+use lib.Dec.{eqb}
 use lib.ListN.{length, take, drop, replicate, length-take, length-drop}
 use lib.Seq.{take-all, take-take}
-use Rattle.rules.specs.Lists.{range, begun, member}
+use borrow.Author.Tests.{eqb-true, eqb-false}
+use Rattle.rules.specs.Lists.{given, range, begun, any, member}
 use Rattle.rules.specs.Sizes.{unitBytes, mostTransfer}
 use Rattle.rules.specs.Bytes.{part}
 use Rattle.rules.specs.Card.{Card}
 use Rattle.rules.specs.Store.{Store, Volume, decode, cardOf}
-use Rattle.rules.specs.Refusal.{Outcome, result}
-use Rattle.rules.specs.Refusal.Outcome.{accept}
+use Rattle.rules.specs.Refusal.{Outcome, Result, numberOf, result}
+use Rattle.rules.specs.Refusal.Refusal.{no-card}
+use Rattle.rules.specs.Refusal.Outcome.{refuse, accept}
 use Rattle.rules.specs.Units.{validLength, unitsOf}
 use Rattle.rules.specs.Inspect.{Inspected, inspectUnit}
 use Rattle.rules.specs.Inspect.Inspected.{hole, checked}
-use Rattle.rules.specs.Read.{readLength, follow, thenUnits, checkUnits, readOutcome}
+use Rattle.rules.specs.Arguments.{withCard}
+use Rattle.rules.specs.Read.{readLength, follow, thenUnits, checkUnits, handOut, readUnits, readFile, readOutcome}
 use Rattle.rules.specs.Read.Checked.{bytes}
 use Rattle.rules.specs.Call.{call}
 use Rattle.rules.specs.Call.Look.{read}
 use Rattle.rules.specs.Call.Call.{look}
-use Rattle.rules.specs.Plain.{File, fileBytes, plainRead}
+use Rattle.rules.specs.Plain.{File, fileBytes, plainRead, plainPiece}
 use Rattle.rules.specs.Demand.{PlainAnswer, neverNumbers}
-use Rattle.rules.specs.Answers.{checkedBytes}
+use Rattle.rules.proofs.ListLaws.{if-cases, given-some, maybe-cases}
 use Rattle.rules.proofs.UnitListLaws.{unitsOf-some}
 use Rattle.rules.proofs.ByteLaws.{part-none, part-add, part-part}
 use Rattle.rules.proofs.PassLaws.{Passes}
-use Rattle.history.proofs.FileCallLaws.{ReadBytes, read-accepted, never-read}
+use Rattle.rules.proofs.OutcomeLaws.{never-zero, goes-on}
+use Rattle.history.proofs.HistoryLaws.{Never}
 
 -- what reading a unit finds is these bytes: a hole where they are zeros, or they themselves
 pub data UnitIs (xs : List ℕ) : Inspected → Type 0 where
@@ -112,31 +117,66 @@ module _ (s : Store) (object : ℕ) (xs : List ℕ) (known : ObjectIs (decode s)
       rw (known c q .0, plain-part xs offset (length out))
       (check-part (decode s) (c .object) xs (known c q .1) offset (readLength (length xs) offset (length out)) w (read-within (length xs) offset (length out) w))
 
-  -- an accepted read's count and buffer
-  read-bytes : (c : Card) (o : Outcome) → cardOf (decode s) object ≡ some c
-      → ((readLength (c .size) offset (length out) ≡ 0) × (o ≡ accept 0 s out)) ⊎ ReadBytes offset out s c o
-      → o ≡ accept (readLength (c .size) offset (length out)) s (plainRead xs offset (length out) ++ drop (readLength (c .size) offset (length out)) out)
-  unfolding checkedBytes
-  read-bytes c o q (inl e) =
-      let k : readLength (length xs) offset (length out) ≡ 0 = rw (known c q .0) at (e .0) in
-      rw (known c q .0, plain-part xs offset (length out), k, part-none xs offset) (e .1)
-  read-bytes c o q (inr d) =
-      let h = read-units c q (d .some) in
-      let f : d .found ≡ h .0 = ap checkedBytes (sym (d .checked) ∙ h .1) in
-      rw (f, h .2) at (d .done)
+  -- so a read of the file is accepted, with their number and with them in front of the buffer's rest
+  read-done : (c : Card) → cardOf (decode s) object ≡ some c
+      → readFile offset s out c ≡ accept (length (plainRead xs offset (length out))) s (plainPiece xs offset out)
+  unfolding readFile readUnits handOut plainPiece
+  read-done c q = rw (plain-length xs offset (length out), ← known c q .0) (if-cases (λ o. o ≡ gives n) (eqb n 0) (accept 0 s out) _ nothing something)
+    where
+      n : ℕ
+      n = readLength (c .size) offset (length out)
 
-  -- every accepted read gives the plain array's bytes
-  pub read-plain : (files : List File) → fileBytes files object ≡ some xs → call (look (read object offset out)) s .number ≡ 0
-      → PlainAnswer files object offset out (call (look (read object offset out)) s)
-  unfolding call result
-  read-plain files e a =
-      let r = read-accepted object offset out s a in
-      let k = read-bytes (r .card) (readOutcome object offset out s) (r .known) (r .done) in
-      let n : readLength (r .card .size) offset (length out) ≡ length (plainRead xs offset (length out)) = rw (known (r .card) (r .known) .0) (sym (plain-length xs offset (length out))) in
-      rw k (record { bytes = xs; known = e; count = n; buffer = refl })
+      gives : ℕ → Outcome
+      gives k = accept k s (plainRead xs offset (length out) ++ drop k out)
 
-  -- and no read is refused with "2, 9 to 12 and 14"
-  pub read-never : Passes s → member (call (look (read object offset out)) s .number) neverNumbers ≡ false
-  read-never p =
-      never-read s p object offset out
-      (λ c q z r e. let h = read-units c q z in let m : _≡_ {A = ℕ} 0 1 = cc (e, h .1) in omega arith)
+      nothing : eqb n 0 ≡ true → accept 0 s out ≡ gives n
+      nothing z =
+          let e : n ≡ 0 = eqb-true n 0 z in
+          let k : readLength (length xs) offset (length out) ≡ 0 = rw (known c q .0) at e in
+          rw (e, plain-part xs offset (length out), k, part-none xs offset) refl
+
+      something : eqb n 0 ≡ false → handOut (offset % unitBytes) n s out (checkUnits (decode s) (c .object) (c .size) (unitsOf offset (offset + n))) ≡ gives n
+      something z = let h = read-units c q (eqb-false n 0 z) in rw (h .1, h .2) refl
+
+-- ---- what becomes of reads
+
+-- refused for want of a card alone, or accepted: then the store stays, and what is given is as P says
+pub data Reads (P : Result → Type 0) (s : Store) (out : List ℕ) : Outcome → Type 0 where
+  no-file : Reads P s out (refuse no-card)
+  answered : (n : ℕ) (filled : List ℕ) → P (result s out (accept n s filled)) → Reads P s out (accept n s filled)
+
+-- so what is accepted gives what P says
+pub reads-give : {P : Result → Type 0} {s : Store} {out : List ℕ} {o : Outcome} → Reads P s out o → result s out o .number ≡ 0 → P (result s out o)
+reads-give {s = s} {out = out} no-file e = absurd (never-zero s out no-card e)
+reads-give (answered n filled a) e = a
+
+-- and nothing is refused with "2, 9 to 12 and 14"
+pub reads-never : {P : Result → Type 0} {s : Store} {out : List ℕ} {o : Outcome} → Reads P s out o → Never s out o
+unfolding result numberOf member any
+reads-never no-file = refl
+reads-never (answered n filled a) = refl
+
+-- the volume and the plain arrays have the same objects, and each object says its array's bytes
+abbrev pub AllKnown : List File → Volume → Type 0
+AllKnown files v =
+    (object : ℕ) → (given (fileBytes files object) ≡ given (cardOf v object)) × ((xs : List ℕ) → fileBytes files object ≡ some xs → ObjectIs v object xs)
+
+module _ (files : List File) (s : Store) (known : AllKnown files (decode s)) (object offset : ℕ) (out : List ℕ) where
+  -- one read, whichever call does it: it is refused for want of a card alone, and else gives the plain array's bytes
+  pub read-one : Reads (PlainAnswer files object offset out) s out (withCard (decode s) object (readFile offset s out))
+  unfolding withCard result plainPiece given
+  read-one =
+      maybe-cases (Reads (PlainAnswer files object offset out) s out) (refuse no-card) (readFile offset s out) (cardOf (decode s) object) (λ q. no-file)
+      (λ c q. let k = given-some (fileBytes files object) (known object .0 ∙ ap given q) in
+      rw (read-done s object (k .0) (known object .1 (k .0) (k .1)) offset out c q) (answered _ _ (record { bytes = k .0; known = k .1; count = refl; buffer = refl })))
+
+  module _ (p : Passes s) where
+    -- every accepted read gives the plain array's bytes
+    pub read-plain : call (look (read object offset out)) s .number ≡ 0 → PlainAnswer files object offset out (call (look (read object offset out)) s)
+    unfolding call readOutcome
+    read-plain = rw (goes-on s (withCard (decode s) object (readFile offset s out)) p) (reads-give read-one)
+
+    -- and no read is refused with "2, 9 to 12 and 14"
+    pub read-never : member (call (look (read object offset out)) s .number) neverNumbers ≡ false
+    unfolding call readOutcome
+    read-never = rw (goes-on s (withCard (decode s) object (readFile offset s out)) p) (reads-never read-one)

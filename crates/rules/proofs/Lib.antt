@@ -15,6 +15,7 @@ pub mod StoreLaws
 pub mod DivisionLaws
 pub mod Crc
 pub mod Cases
+pub mod ManyCases
 pub mod Refused
 pub mod PassLaws
 pub mod OutcomeLaws

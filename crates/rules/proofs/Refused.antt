@@ -7,16 +7,16 @@ use Prim.Native.Nat.{ℕ, _≤_}
 use native.Mathlib.Omega.{arith}
 use Rattle.rules.specs.Store.{Store}
 use Rattle.rules.specs.Refusal.{Refusal, Outcome, Result, numberOf, result}
-use Rattle.rules.specs.Refusal.Refusal.{wrong-length, broken-rule, no-card, card-exists, past-limit, below-size, bad-time, no-card-place, no-checksum, not-backed, nonzero-past-end, checksum-differs, no-space, count-disagrees, no-group-place, no-extent-place}
+use Rattle.rules.specs.Refusal.Refusal.{wrong-length, broken-rule, no-card, card-exists, past-limit, below-size, bad-time, no-card-place, no-checksum, not-backed, nonzero-past-end, checksum-differs, no-space, count-disagrees, no-group-place, no-extent-place, bad-reads}
 use Rattle.rules.specs.Refusal.Outcome.{refuse, accept}
 use Rattle.rules.specs.Call.{Call, call}
-use Rattle.rules.specs.Call.Look.{read, fill}
+use Rattle.rules.specs.Call.Look.{read, readMany, fill}
 use Rattle.rules.specs.Call.Call.{fresh, enter, write, grow, settle, look}
 
--- document 01's numbers are 1 to 16
+-- document 01's numbers are 1 to 16, and document 02's go on from there
 pub record Numbered (n : ℕ) : Type 0 where
   pub least : 1 ≤ n
-  pub most : n ≤ 16
+  pub most : n ≤ 17
 
 pub numbered : (r : Refusal) → Numbered (numberOf r)
 unfolding numberOf
@@ -36,8 +36,9 @@ numbered no-space = record { least = omega arith; most = omega arith }
 numbered count-disagrees = record { least = omega arith; most = omega arith }
 numbered no-group-place = record { least = omega arith; most = omega arith }
 numbered no-extent-place = record { least = omega arith; most = omega arith }
+numbered bad-reads = record { least = omega arith; most = omega arith }
 
--- a refused call: its number is one of document 01's, its count 0, and the store and the output buffer are those lent
+-- a refused call: its number is one of the documents', its count 0, and the store and the output buffer are those lent
 pub record Unchanged (s : Store) (out : List ℕ) (r : Result) : Type 0 where
   pub number : Numbered (r .number)
   pub count : r .count ≡ 0
@@ -58,6 +59,7 @@ lentOut (write object offset bytes time) = []
 lentOut (grow object size time) = []
 lentOut settle = []
 lentOut (look (read object offset out)) = out
+lentOut (look (readMany list out)) = out
 lentOut (look fill) = []
 
 -- so is every public one
@@ -69,4 +71,5 @@ call-cases (write object offset bytes time) s = result-cases s [] _
 call-cases (grow object size time) s = result-cases s [] _
 call-cases settle s = result-cases s [] _
 call-cases (look (read object offset out)) s = result-cases s out _
+call-cases (look (readMany list out)) s = result-cases s out _
 call-cases (look fill) s = result-cases s [] _

@@ -1,13 +1,13 @@
 -- The store that an accepted settle leaves: it passes refusals 1 and 2, and says the volume with no block retired. And the calls that leave the
--- store itself: fill, read, an empty write, and a grow to the size that there is.
+-- store itself: fill, reads, an empty write, and a grow to the size that there is.
 -- Assumes nothing.
 use mathlib.Core.Path.{_≡_, refl, ap, _∙_}
-use mathlib.Core.List.{List, []}
+use mathlib.Core.List.{List, [], _∷_}
 use mathlib.Core.Bool.{Bool, true, not, _&&_, and-true}
 use mathlib.Core.Option.{some}
 use Prim.Native.Nat.{ℕ}
 use lib.Dec.{eqb, leb}
-use lib.ListN.{length}
+use lib.ListN.{length, drop}
 use borrow.Author.Tests.{eq-eqb}
 use Rattle.rules.specs.Time.{Time}
 use Rattle.rules.specs.Arguments.{withCard}
@@ -15,14 +15,18 @@ use Rattle.rules.specs.Lists.{range}
 use Rattle.rules.specs.Bytes.{Bytes}
 use Rattle.rules.specs.Card.{Card}
 use Rattle.rules.specs.Store.{Store, StoreBytes, Volume, decode, decodeWith, headOf, encodeInto, cardOf}
-use Rattle.rules.specs.Refusal.{Case, Outcome, firstOf, result}
+use Rattle.rules.specs.Refusal.{Case, Outcome, _when_, firstOf, result}
+use Rattle.rules.specs.Refusal.Refusal.{bad-reads}
+use Rattle.rules.specs.Refusal.Outcome.{refuse, accept}
 use Rattle.rules.specs.Integrity.{mappedBlocks, reservedRight, retiredRight, storeCases}
 use Rattle.rules.specs.Write.{writeFile, writeOutcome, growFile, growOutcome}
 use Rattle.rules.specs.Read.{Checked, readLength, handOut, readUnits, readFile, readOutcome}
 use Rattle.rules.specs.Read.Checked.{failed, bytes}
+use Rattle.rules.specs.Triples.{Triple, decodeTriples}
+use Rattle.rules.specs.ReadMany.{readsWrong, withPiece, thenReads, readAll, readManyOutcome}
 use Rattle.rules.specs.Settle.{settled, settleOutcome, fillOutcome}
 use Rattle.rules.specs.Call.{Look, call}
-use Rattle.rules.specs.Call.Look.{read, fill}
+use Rattle.rules.specs.Call.Look.{read, readMany, fill}
 use Rattle.rules.specs.Call.Call.{grow, settle, look}
 use Rattle.rules.proofs.ListLaws.{if-cases, if-true, maybe-cases, all-weaken, all-range-of, each-any}
 use Rattle.rules.proofs.StoreLaws.{VolumeFits}
@@ -122,12 +126,32 @@ unfolding handOut result
 hand-stays at n s out (failed r) = refl
 hand-stays at n s out (bytes xs) = refl
 
--- fill and read
+-- a piece in front
+piece-stays : (s : Store) (lent out piece : List ℕ) (o : Outcome) → Stays s lent o → Stays s out (withPiece piece o)
+unfolding withPiece result
+piece-stays s lent out piece (refuse r) h = refl
+piece-stays s lent out piece (accept n left rest) h = h
+
+-- one read after another
+then-stays : (s : Store) (lent out : List ℕ) (o next : Outcome) → Stays s lent next → Stays s out (thenReads o next)
+unfolding thenReads result
+then-stays s lent out (refuse r) next h = refl
+then-stays s lent out (accept n left piece) next h = piece-stays s lent out piece next h
+
+-- all of them
+all-stay : (answer : ℕ) (s : Store) (ts : List Triple) (lent out : List ℕ) → Stays s lent (readAll answer s ts out)
+unfolding readAll result
+all-stay answer s [] lent out = refl
+all-stay answer s (t ∷ ts) lent out = then-stays s lent lent _ _ (all-stay answer s ts lent (drop (t .len) out))
+
+-- reads and fill
 pub look-stays : (l : Look) (s : Store) → call (look l) s .store ≡ s
-unfolding call readOutcome readFile readUnits fillOutcome result
+unfolding call readOutcome readFile readUnits readManyOutcome fillOutcome result
 look-stays (read object offset out) s =
     first-stays s out (storeCases s) _ (card-stays s out object _ (λ c e.
     if-cases (Stays s out) (eqb (readLength (c .size) offset (length out)) 0) _ _ (λ q. refl) (λ q. hand-stays _ _ s out _)))
+look-stays (readMany list out) s =
+    first-stays s out (storeCases s) _ (first-stays s out ((bad-reads when readsWrong list out) ∷ []) _ (all-stay _ s (decodeTriples list) out out))
 look-stays fill s = first-stays s [] (storeCases s) _ refl
 
 -- a write of no bytes, whatever the limit of runs

@@ -11,14 +11,16 @@ use Rattle.rules.specs.Fresh.{freshOutcome}
 use Rattle.rules.specs.Enter.{enterOutcome}
 use Rattle.rules.specs.Write.{writeOutcome, growOutcome}
 use Rattle.rules.specs.Read.{readOutcome}
+use Rattle.rules.specs.ReadMany.{readManyOutcome}
 use Rattle.rules.specs.Settle.{settleOutcome, fillOutcome}
 
--- the calls that leave the store as it is; a read lends its output buffer
+-- the calls that leave the store as it is; a read lends its output buffer, and many reads lend their list too
 pub data Look : Type 0 where
   read : (object offset : ℕ) (out : List ℕ) → Look
+  readMany : (list out : List ℕ) → Look
   fill : Look
 
--- "fresh, enter (a new file), write, grow, read, settle, fill"
+-- "fresh, enter (a new file), write, grow, read, settle, fill", and what document 02 adds
 pub data Call : Type 0 where
   fresh : (uuid : List ℕ) (reserved : ℕ) → Call
   enter : (object : ℕ) (time : Time) → Call
@@ -38,6 +40,7 @@ WordTime t = Word (t .seconds) × Word (t .nanoseconds)
 -- the arguments are numbers of 64 bits and bytes
 abbrev pub LookInRange : Look → Type 0
 LookInRange (read object offset out) = Word object × Word offset × Bytes out
+LookInRange (readMany list out) = Bytes list × Bytes out
 LookInRange fill = Unit {0}
 
 -- so for every call; nothing else is assumed of one
@@ -49,7 +52,7 @@ InRange (grow object size time) = Word object × Word size × WordTime time
 InRange settle = Unit {0}
 InRange (look l) = LookInRange l
 
--- what a call gives: what a write keeps of a unit is held to `mostRuns`; a read alone lends a buffer besides the store
+-- what a call gives: what a write keeps of a unit is held to `mostRuns`; reads alone lend a buffer besides the store that they may change
 unfoldable pub call : Call → Store → Result
 call (fresh uuid reserved) s = result s [] (freshOutcome uuid reserved s)
 call (enter object time) s = result s [] (enterOutcome object time s)
@@ -57,4 +60,5 @@ call (write object offset bytes time) s = result s [] (writeOutcome mostRuns obj
 call (grow object size time) s = result s [] (growOutcome object size time s)
 call settle s = result s [] (settleOutcome s)
 call (look (read object offset out)) s = result s out (readOutcome object offset out s)
+call (look (readMany list out)) s = result s out (readManyOutcome list out s)
 call (look fill) s = result s [] (fillOutcome s)

@@ -12,10 +12,12 @@ use Rattle.rules.specs.Card.{Card}
 use Rattle.rules.specs.Extent.{Extent}
 use Rattle.rules.specs.Store.{Store, StoreBytes, Volume, decode, imageBlocks}
 use Rattle.rules.specs.Refusal.{Result}
+use Rattle.rules.specs.Triples.{decodeTriples}
+use Rattle.rules.specs.ReadMany.{different}
 use Rattle.rules.specs.Call.{Call, InRange, call}
-use Rattle.rules.specs.Call.Look.{read}
+use Rattle.rules.specs.Call.Look.{read, readMany}
 use Rattle.rules.specs.Call.Call.{fresh, enter, write, grow, settle, look}
-use Rattle.rules.specs.Plain.{Fed, File, plain, fileBytes, plainRead}
+use Rattle.rules.specs.Plain.{Fed, File, plain, fileBytes, plainRead, plainMany, plainPairs}
 
 -- ---- a list of calls
 
@@ -89,16 +91,25 @@ pub record PlainAnswer (files : List File) (object offset : ℕ) (out : List ℕ
   pub count : r .count ≡ length (plainRead bytes offset (length out))
   pub buffer : r .out ≡ plainRead bytes offset (length out) ++ drop (r .count) out
 
+-- what the reads of a list gave in one call, its count and its whole buffer, is what the plain arrays say
+pub record PlainAnswers (files : List File) (list out : List ℕ) (r : Result) : Type 0 where
+  -- "the number of different pairs of object and unit that the reads touch"
+  pub count : r .count ≡ different (flatMap (plainPairs files) (decodeTriples list))
+  pub buffer : plainMany files (decodeTriples list) out ≡ some (r .out)
+
 -- the refusals that never come: "2, 9 to 12 and 14"
 abbrev pub neverNumbers : List ℕ
 neverNumbers = 2 ∷ 9 ∷ 10 ∷ 11 ∷ 12 ∷ 14 ∷ []
 
--- a store that calls left, the plain arrays after the same calls, and the number given to the last accepted fresh. The four clauses are the demand's
--- own; plain arrays, places, reserved and retired are as document 01 defines them
+-- a store that calls left, the plain arrays after the same calls, and the number given to the last accepted fresh. Four clauses are the demand's
+-- own, and W-201's is the first of them for many reads; plain arrays, places, reserved and retired are as document 01 defines them
 pub record Sound (files : List File) (reserved : ℕ) (s : Store) : Type 0 where
   -- "reads give the plain array's bytes": every read that is accepted, from any place into any buffer
   pub reads : (object offset : ℕ) (out : List ℕ) → InRange (look (read object offset out)) → call (look (read object offset out)) s .number ≡ 0
       → PlainAnswer files object offset out (call (look (read object offset out)) s)
+  -- so many reads in one call, of any list into any buffer: the count and the whole buffer are what the plain arrays say
+  pub readsMany : (list out : List ℕ) → InRange (look (readMany list out)) → call (look (readMany list out)) s .number ≡ 0
+      → PlainAnswers files list out (call (look (readMany list out)) s)
   -- "every block is in exactly one place": reserved, free, retired, or at one place of one file
   pub onePlace : (b : ℕ) → b < imageBlocks s → holders reserved (decode s) b ≡ 1
   -- "card counts are right": each card's allocated blocks are the places of its file

@@ -25,6 +25,8 @@ pub mod Fresh
 pub mod Enter
 pub mod Write
 pub mod Read
+pub mod Triples
+pub mod ReadMany
 pub mod Settle
 pub mod Call
 pub mod Plain

@@ -1,6 +1,6 @@
 -- Document 01, "Plain arrays": what the files hold, told from the calls alone. Nothing here sees a store.
 -- Assumes nothing.
-use mathlib.Core.List.{List, [], _∷_, map}
+use mathlib.Core.List.{List, [], _∷_, _++_, map}
 use mathlib.Core.Bool.{Bool}
 use mathlib.Core.Option.{Option, none, some}
 use Prim.Native.Nat.{ℕ, min}
@@ -9,6 +9,8 @@ use lib.ListN.{length, take, drop}
 use Rattle.rules.specs.Lists.{if_then_else_, maybe, find}
 use Rattle.rules.specs.Sizes.{mostTransfer}
 use Rattle.rules.specs.Bytes.{patch, padded}
+use Rattle.rules.specs.Triples.{Triple}
+use Rattle.rules.specs.ReadMany.{Pair, pairsOf}
 use Rattle.rules.specs.Call.{Call}
 use Rattle.rules.specs.Call.Call.{fresh, enter, write, grow, settle, look}
 
@@ -32,7 +34,7 @@ overwrite offset new old = patch (padded offset old) offset new
 
 -- the step of an accepted call.
 -- "Fresh: none again. Enter: its object, no bytes. Write: empty, no change; else the first 1,048,576 bytes at most [..]. Grow: zeros up to the
--- new size. Read, settle, fill [..]: no change."
+-- new size. Read, settle, fill [..]: no change."; so many reads in one call
 unfoldable pub accepted : Call → List File → List File
 accepted (fresh uuid reserved) files = []
 accepted (enter object time) files = record { object = object; bytes = [] } ∷ files
@@ -58,3 +60,19 @@ fileBytes files object = maybe none (λ a. some (a .bytes)) (find (λ a. eqb (a 
 -- "A read's bytes are those from its offset to the end, at most 1,048,576 and at most its buffer's length"
 unfoldable pub plainRead : List ℕ → ℕ → ℕ → List ℕ
 plainRead bytes offset room = take (min room mostTransfer) (drop offset bytes)
+
+-- W-201: "what a single read into a buffer of that length gives, and its unread rest is unchanged"
+unfoldable pub plainPiece : List ℕ → ℕ → List ℕ → List ℕ
+plainPiece bytes offset piece = plainRead bytes offset (length piece) ++ drop (length (plainRead bytes offset (length piece))) piece
+
+-- the whole buffer of many reads, as the plain arrays have it; there is none where an object has no array
+unfoldable pub plainMany : List File → List Triple → List ℕ → Option (List ℕ)
+plainMany files [] out = some out
+plainMany files (t ∷ ts) out =
+    maybe none (λ bytes. maybe none (λ rest. some (plainPiece bytes (t .offset) (take (t .len) out) ++ rest)) (plainMany files ts (drop (t .len) out)))
+    (fileBytes files (t .object))
+
+-- the pairs of object and unit in which the bytes lie that a read gets of its plain array; none where the object has no array
+unfoldable pub plainPairs : List File → Triple → List Pair
+plainPairs files t =
+    maybe [] (λ bytes. pairsOf (t .object) (t .offset) (length (plainRead bytes (t .offset) (t .len)))) (fileBytes files (t .object))

@@ -1,4 +1,4 @@
--- Document 01, "Refusals in checking order": the sixteen numbers, what a call gives, and the rule of the first match.
+-- Document 01, "Refusals in checking order": its sixteen numbers and document 02's, what a call gives, and the rule of the first match.
 -- Assumes nothing.
 use mathlib.Core.List.{List, [], _∷_}
 use mathlib.Core.Bool.{Bool}
@@ -6,7 +6,7 @@ use Prim.Native.Nat.{ℕ}
 use Rattle.rules.specs.Lists.{if_then_else_}
 use Rattle.rules.specs.Store.{Store}
 
--- the cases in which a call is refused, in document 01's order
+-- the cases in which a call is refused, in document 01's order; behind them those that document 02 adds
 pub data Refusal : Type 0 where
   wrong-length : Refusal
   broken-rule : Refusal
@@ -24,8 +24,9 @@ pub data Refusal : Type 0 where
   count-disagrees : Refusal
   no-group-place : Refusal
   no-extent-place : Refusal
+  bad-reads : Refusal
 
--- document 01's number for each
+-- the number of each
 unfoldable pub numberOf : Refusal → ℕ
 numberOf wrong-length = 1
 numberOf broken-rule = 2
@@ -43,6 +44,7 @@ numberOf no-space = 13
 numberOf count-disagrees = 14
 numberOf no-group-place = 15
 numberOf no-extent-place = 16
+numberOf bad-reads = 17
 
 -- a refusal and the test that tells whether its case holds
 pub record Case : Type 0 where

@@ -9,4 +9,5 @@ pub mod BrokenRules
 pub mod Refused
 pub mod Order
 pub mod Run
+pub mod ReadMany
 pub mod KeptBlocks
