@@ -17,11 +17,11 @@ use Rattle.inspect.proofs.FoundLaws.{blocksFound, found-bytes}
 use Rattle.image.specs.Blocks.{blockOrZeros, blocksBytes}
 
 -- checksums that are there or not, as entries of an array
-asEntries : List (Option ℕ) → List ℕ
+unfoldable pub asEntries : List (Option ℕ) → List ℕ
 asEntries os = map (maybe 0 suc) os
 
 -- the entries stand for them
-entries-as : (os : List (Option ℕ)) → entries (asEntries os) ≡ os
+pub entries-as : (os : List (Option ℕ)) → entries (asEntries os) ≡ os
 unfolding asEntries entries entryOf maybe
 entries-as [] = refl
 entries-as (none ∷ os) = ap (λ (ps : List (Option ℕ)). none ∷ ps) (entries-as os)

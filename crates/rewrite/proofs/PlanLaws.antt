@@ -11,7 +11,7 @@ use Rattle.rules.specs.Lists.{if_then_else_}
 use Rattle.rules.specs.Sizes.{unitBlocks}
 use Rattle.rules.specs.Store.{Volume}
 use Rattle.rules.specs.Refusal.{Refusal, numberOf}
-use Rattle.rules.specs.Refusal.Refusal.{wrong-length, broken-rule, no-card, card-exists, past-limit, below-size, bad-time, no-card-place, no-checksum, not-backed, nonzero-past-end, checksum-differs, no-space, count-disagrees, no-group-place, no-extent-place}
+use Rattle.rules.specs.Refusal.Refusal.{no-space, count-disagrees}
 use Rattle.rules.specs.Units.{Change, touches, readsOld, assembled}
 use Rattle.rules.specs.Inspect.{Inspected, inspectUnit, unitMapping}
 use Rattle.rules.specs.Inspect.Inspected.{damaged, hole, checked}
@@ -20,6 +20,7 @@ use Rattle.rules.specs.Allocation.{tooFew}
 use Rattle.rules.specs.Rewrite.{Progress, Rewritten, Step, layOut, allocateUnit, counted, countDisagrees, allocatedAfter, rewriteFrom, afterRead, rewriteUnit}
 use Rattle.rules.specs.Rewrite.Step.{stopped, untouched, rewritten}
 use Rattle.rules.specs.Answers.{stepNumber}
+use Rattle.rules.proofs.Refused.{numbered}
 use Rattle.rules.proofs.KeptLaws.{wanted-some, wanted-none, wanted-most}
 use Rattle.rules.proofs.AllocationLaws.{length-allocateData}
 use Rattle.rewrite.specs.declared.Old.{Old}
@@ -38,23 +39,7 @@ newOf-assigned (none ∷ kept) (b ∷ new) w = ap (λ (t : List ℕ). b ∷ t) (
 
 -- every refusal has a number
 number-some : (r : Refusal) → 0 < numberOf r
-unfolding numberOf
-number-some wrong-length = omega arith
-number-some broken-rule = omega arith
-number-some no-card = omega arith
-number-some card-exists = omega arith
-number-some past-limit = omega arith
-number-some below-size = omega arith
-number-some bad-time = omega arith
-number-some no-card-place = omega arith
-number-some no-checksum = omega arith
-number-some not-backed = omega arith
-number-some nonzero-past-end = omega arith
-number-some checksum-differs = omega arith
-number-some no-space = omega arith
-number-some count-disagrees = omega arith
-number-some no-group-place = omega arith
-number-some no-extent-place = omega arith
+number-some r = omega (arith, numbered r .least)
 
 -- ---- a unit of a change
 

@@ -1,3 +1,4 @@
 pub mod CallLaws
 pub mod ReadLaws
 pub mod WriteLaws
+pub mod ReadManyLaws

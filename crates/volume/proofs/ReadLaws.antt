@@ -60,7 +60,7 @@ module _ (object offset : ℕ) (out : List ℕ) (s : Store) where
   read-stopped n e z = stopped s out _ n e z
 
   -- what a read gives, as the call's result
-  resulting : Gives → Result
+  unfoldable pub resulting : Gives → Result
   resulting g = handed (g .number) (g .count) s (g .out)
 
   -- the checked units of a read give what the rules hand out
@@ -110,16 +110,19 @@ module _ (object offset : ℕ) (out : List ℕ) (s : Store) where
   card-gives l none e = refl
   card-gives l (some card) e = sized-gives l card (eqb-true (card .object) object (find-passes (λ c. eqb (c .object) object) (decode s .books .cards) card e))
 
-  -- what a read of a store that passes gives
-  pub read-gives : Passes s → (number count : ℕ) (filled : List ℕ)
-      → gives number count filled ≡ givesRead (s .image) (s .head) (s .cards) (s .extents) (s .groups) object offset out
-      → handed number count s filled ≡ call (look (read object offset out)) s
-  unfolding call readOutcome withCard givesRead resulting
-  read-gives p number count filled e =
-      ap resulting e ∙ same ∙ card-gives (lawful-decode s p) (cardOf (decode s) object) refl
-      ∙ sym (ap (result s out) (goes-on s (withCard (decode s) object (readFile offset s out)) p))
+  -- what a read of a store that passes gives, refusals 1 and 2 past
+  pub single-gives : Passes s → resulting (givesRead (s .image) (s .head) (s .cards) (s .extents) (s .groups) object offset out) ≡ result s out (withCard (decode s) object (readFile offset s out))
+  unfolding withCard givesRead resulting
+  single-gives p = same ∙ card-gives (lawful-decode s p) (cardOf (decode s) object) refl
     where
       same : resulting (givesRead (s .image) (s .head) (s .cards) (s .extents) (s .groups) object offset out)
           ≡ resulting (maybe (gives (numberOf no-card) 0 out)
           (λ c. givesSized (s .image) (decode s .uuid) (s .extents) (s .groups) (decodeHead (s .head) .extents) (decodeHead (s .head) .groups) object offset out (c .size)) (cardOf (decode s) object))
       same = unfold cardOf decode decodeWith decodeBooks in refl
+
+  -- so the call
+  pub read-gives : Passes s → (number count : ℕ) (filled : List ℕ)
+      → gives number count filled ≡ givesRead (s .image) (s .head) (s .cards) (s .extents) (s .groups) object offset out
+      → handed number count s filled ≡ call (look (read object offset out)) s
+  unfolding call readOutcome resulting
+  read-gives p number count filled e = ap resulting e ∙ single-gives p ∙ sym (ap (result s out) (goes-on s (withCard (decode s) object (readFile offset s out)) p))

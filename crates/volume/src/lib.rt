@@ -7,7 +7,7 @@
 ghost use mathlib.Core.Path.{_≡_};
 ghost use Rattle.rules.specs.Store.{lent};
 ghost use Rattle.rules.specs.Call.{call};
-ghost use Rattle.rules.specs.Call.Look.{read, fill};
+ghost use Rattle.rules.specs.Call.Look.{read, readMany, fill};
 ghost use Rattle.rules.specs.Call.Call.{fresh, enter, write, grow, settle, look};
 ghost use Rattle.volume.specs.Call.{handed, gave};
 use format::sizes::BLOCK_BYTES;
@@ -45,6 +45,33 @@ pub extern "C" fn sangueko_read(
     Answer {
         number: given.number,
         count: given.count as u64,
+    }
+}
+
+// The reads of a list of triples (object, offset, length), each into its piece of `out`, as a single read into a buffer of that length. The count is the
+// number of different units that they touch, each of which is inspected once. Where one read is refused the call is, and `out` stays.
+#[no_mangle]
+pub extern "C" fn sangueko_read_many(
+    image: &[u8],
+    head: &[u8],
+    cards: &[u8],
+    extents: &[u8],
+    groups: &[u8],
+    used: &[u8],
+    retired: &[u8],
+    list: &[u8],
+    out: &mut [u8],
+) -> Answer
+    ensures { λ r. ⌜ handed (r .number) (r .count) (lent (now (image .entry)) (now (head .entry)) (now (cards .entry)) (now (extents .entry)) (now (groups .entry)) (now (used .entry)) (now (retired .entry))) (now (out .exit)) ≡ call (look (readMany (now (list .entry)) (now (out .entry)))) (lent (now (image .entry)) (now (head .entry)) (now (cards .entry)) (now (extents .entry)) (now (groups .entry)) (now (used .entry)) (now (retired .entry))) ⌝ }
+{
+    let number = intake::refused(image, head, cards, extents, groups, used, retired);
+    if number != 0 {
+        return Answer { number, count: 0 };
+    }
+    let done = read_many::read_many(image, head, cards, extents, groups, list, out);
+    Answer {
+        number: done.number,
+        count: done.made,
     }
 }
 

@@ -1,0 +1,4 @@
+pub mod PairLaws
+pub mod NumberLaws
+pub mod StretchLaws
+pub mod CheckedLaws

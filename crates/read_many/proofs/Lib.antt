@@ -1,0 +1,3 @@
+pub mod UnitNumbers
+pub mod PieceLaws
+pub mod ManyLaws

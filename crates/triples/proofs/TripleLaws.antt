@@ -1,0 +1,110 @@
+-- Laws of a list of triples: a triple read, and the lengths taken off a room one after another.
+-- Assumes nothing.
+use mathlib.Core.Path.{_≡_, refl, sym, ap, _∙_}
+use mathlib.Core.Bool.{true, false}
+use mathlib.Core.List.{List, [], _∷_}
+use Prim.Native.Nat.{ℕ, suc, _+_, _-_, _*_, _/_, _%_, _≤_, _<_}
+use native.Mathlib.Omega.{arith}
+use lib.Dec.{ltb}
+use lib.ListN.{length, drop, drop-of-length-le}
+use lib.Seq.{drop-cons}
+use borrow.Author.Tests.{eq-eqb, ne-eqb, lt-ltb, le-ltb, ltb-true, ltb-false}
+use Rattle.rules.specs.Bytes.{le, part}
+use Rattle.rules.specs.Triples.{Triple, tripleBytes, mostTriples, decodeTriple, decodeTriples, listWrong, lengthsOf}
+use Rattle.rules.proofs.ByteLaws.{part-part}
+use Rattle.rules.proofs.BookLaws.{length-decodeBook}
+use Rattle.rules.proofs.ListLaws.{test-cases}
+use Rattle.book.specs.Places.{recordAt}
+use Rattle.book.proofs.SearchLaws.{record-at}
+use Rattle.triples.specs.declared.Triple as struct
+use Rattle.triples.specs.Triple.{tripleOf, tripleAt, triplesFrom}
+
+-- a triple's fields, read
+pub triple-read : (s : List ℕ) (i at : ℕ) (t : struct.Triple) → at ≡ tripleBytes * i → t .object ≡ le (part at 8 s) → t .offset ≡ le (part (at + 8) 8 s) → t .len ≡ le (part (at + 16) 8 s)
+    → tripleOf t ≡ tripleAt s i
+unfolding tripleOf tripleAt recordAt decodeTriple
+triple-read s i at t e o f l =
+    let q : ℕ = tripleBytes * i in
+    let z : part 0 8 (part q 24 s) ≡ part at 8 s = part-part s q 24 0 8 (omega arith) ∙ ap (λ (k : ℕ). part k 8 s) (omega (arith, e)) in
+    let y : part 8 8 (part q 24 s) ≡ part (at + 8) 8 s = part-part s q 24 8 8 (omega arith) ∙ ap (λ (k : ℕ). part k 8 s) (omega (arith, e)) in
+    let x : part 16 8 (part q 24 s) ≡ part (at + 16) 8 s = part-part s q 24 16 8 (omega arith) ∙ ap (λ (k : ℕ). part k 8 s) (omega (arith, e)) in
+    let o′ : t .object ≡ le (part 0 8 (part q 24 s)) = o ∙ ap le (sym z) in
+    let f′ : t .offset ≡ le (part 8 8 (part q 24 s)) = f ∙ ap le (sym y) in
+    let l′ : t .len ≡ le (part 16 8 (part q 24 s)) = l ∙ ap le (sym x) in
+    λ k. record { object = o′ k; offset = f′ k; len = l′ k }
+
+module _ (list : List ℕ) where
+  -- a list that is not whole triples
+  pub list-ragged : (length list % tripleBytes ≡ 0 → ⊥) → true ≡ listWrong list
+  unfolding listWrong
+  list-ragged z = rw (ne-eqb (length list % tripleBytes) 0 z) refl
+
+  -- one that is
+  pub list-whole : length list % tripleBytes ≡ 0 → ltb mostTriples (length list / tripleBytes) ≡ listWrong list
+  unfolding listWrong
+  list-whole z = rw (eq-eqb (length list % tripleBytes) 0 z) refl
+
+  -- the triples are as many as are whole
+  pub length-triples : length (decodeTriples list) ≡ length list / tripleBytes
+  unfolding decodeTriples
+  length-triples = length-decodeBook decodeTriple tripleBytes (length list / tripleBytes) list
+
+  -- all of them
+  pub from-start : triplesFrom list 0 ≡ decodeTriples list
+  unfolding triplesFrom
+  from-start = refl
+
+  -- the one at a place, and those behind it
+  pub from-here : (i : ℕ) → i < length list / tripleBytes → triplesFrom list i ≡ tripleAt list i ∷ triplesFrom list (i + 1)
+  unfolding triplesFrom tripleAt decodeTriples
+  from-here i l =
+      let e : suc i ≡ i + 1 = omega arith in
+      drop-cons (decodeTriples list) i (decodeTriple []) (rw length-triples l)
+      ∙ ap (λ (t : Triple). t ∷ drop (suc i) (decodeTriples list)) (record-at decodeTriple tripleBytes list (length list / tripleBytes) i (decodeTriple []) l)
+      ∙ ap (λ (k : ℕ). recordAt decodeTriple tripleBytes list i ∷ drop k (decodeTriples list)) e
+
+  -- none behind the last
+  pub from-end : (i : ℕ) → length list / tripleBytes ≤ i → triplesFrom list i ≡ []
+  unfolding triplesFrom
+  from-end i l = drop-of-length-le (decodeTriples list) {i = i} (rw length-triples l)
+
+  -- ---- the lengths
+
+  -- what is left of the room exceeds, or does not, the lengths from a place on, as the room does all of them
+  abbrev pub LeftOf : (room left i : ℕ) → Type 0
+  LeftOf room left i = ltb room (lengthsOf (decodeTriples list)) ≡ ltb left (lengthsOf (triplesFrom list i))
+
+  -- the lengths from a place on
+  lengths-here : (i : ℕ) → i < length list / tripleBytes → lengthsOf (triplesFrom list i) ≡ tripleAt list i .len + lengthsOf (triplesFrom list (i + 1))
+  unfolding lengthsOf
+  lengths-here i l = ap lengthsOf (from-here i l)
+
+  module _ (room : ℕ) where
+    -- at the start
+    pub left-start : LeftOf room room 0
+    left-start = ap (λ (ts : List Triple). ltb room (lengthsOf ts)) (sym from-start)
+
+    module _ (left i n : ℕ) (e : n ≡ length list / tripleBytes) (h : LeftOf room left i) where
+      -- a length exceeds what is left
+      pub left-short : (t : struct.Triple) → i < n → tripleOf t ≡ tripleAt list i → left < t .len → true ≡ ltb room (lengthsOf (decodeTriples list))
+      unfolding tripleOf
+      left-short t l q x =
+          let y : t .len ≡ tripleAt list i .len = ap (λ (u : Triple). u .len) q in
+          sym (h ∙ lt-ltb left (lengthsOf (triplesFrom list i)) (omega (arith, lengths-here i (omega (arith, l, e)), x, y)))
+
+      -- it does not
+      pub left-more : (t : struct.Triple) → i < n → tripleOf t ≡ tripleAt list i → t .len ≤ left → LeftOf room (left - t .len) (i + 1)
+      unfolding tripleOf
+      left-more t l q x =
+          let y : t .len ≡ tripleAt list i .len = ap (λ (u : Triple). u .len) q in
+          let z : lengthsOf (triplesFrom list i) ≡ t .len + lengthsOf (triplesFrom list (i + 1)) = lengths-here i (omega (arith, l, e)) ∙ ap (λ (k : ℕ). k + lengthsOf (triplesFrom list (i + 1))) (sym y) in
+          h ∙ test-cases _ (ltb (left - t .len) (lengthsOf (triplesFrom list (i + 1))))
+          (λ p. lt-ltb left (lengthsOf (triplesFrom list i)) (omega (arith, z, x, ltb-true (left - t .len) (lengthsOf (triplesFrom list (i + 1))) p)) ∙ sym p)
+          (λ p. le-ltb left (lengthsOf (triplesFrom list i)) (omega (arith, z, x, ltb-false (left - t .len) (lengthsOf (triplesFrom list (i + 1))) p)) ∙ sym p)
+
+      -- no length is behind
+      pub left-end : n ≤ i → false ≡ ltb room (lengthsOf (decodeTriples list))
+      unfolding lengthsOf
+      left-end l =
+          let z : lengthsOf (triplesFrom list i) ≡ 0 = ap lengthsOf (from-end i (omega (arith, l, e))) in
+          sym (h ∙ le-ltb left (lengthsOf (triplesFrom list i)) (omega (arith, z)))
