@@ -60,6 +60,13 @@ say "Read back, and compared with a plain file to which the same was done"
 run read store 7 --out back
 cmp back flags && echo "the same, byte for byte"
 
+say "Parts of it, one after another: two of a unit, one that was never written, and one that ends past the file's end"
+run read store 7 --ranges 59990:20,60990:20,300000:5,449990:100 --out parts
+for range in 59990:20 60990:20 300000:5 449990:10; do
+    dd if=flags bs=1 skip="${range%:*}" count="${range#*:}" status=none
+done >expected
+cmp parts expected && echo "the same bytes"
+
 say "A write of four calls is killed on the way: the store is as after some whole call"
 run new large --blocks 2000
 run enter large 1
@@ -86,6 +93,8 @@ damage() {
 
 say "Now a copy is damaged, one byte at a time"
 damage "A byte of the flags" image 20480 000 12
+ends 12 read copy 7 --ranges 449990:5,5:10 --out parts
+cmp parts expected && echo "   (nothing was written)"
 damage "The head's number of blocks" head 17 000 1
 damage "A spare bit of a card" cards 31 001 2
 damage "The count of an extent" extents 25 000 2

@@ -14,11 +14,11 @@
  *
  * The three books (cards, extents, groups) have 0 to SANGUEKO_MOST_PLACES places each. The caller chooses the lengths once, calls sangueko_fresh, and
  * lends buffers of the same lengths from then on; the buffers, kept as they are, are the store. sangueko_enter adds a file, sangueko_write and
- * sangueko_grow change it, sangueko_read gives its bytes.
+ * sangueko_grow change it, sangueko_read gives its bytes, and sangueko_read_many those of many ranges at once.
  *
  * A call answers a number and a count. Number 0: it did its work, and the count is its answer. Any other number is one of enum sangueko_refusal: the
- * call was refused, its count is 0 and no byte of any buffer has changed. A call tries its refusals in the order of their numbers, 9 to 14 unit by
- * unit, and gives the first that applies. It takes any bytes, lengths and numbers whatever: what it cannot work on it refuses.
+ * call was refused, its count is 0 and no byte of any buffer has changed. A call tries its refusals in the order of their numbers, but 17 right behind
+ * 2, and 9 to 14 unit by unit, and gives the first that applies. It takes any bytes, lengths and numbers whatever: what it cannot work on it refuses.
  *
  * Proved. Of each call one equation is proved: its number, its count and every byte of the buffers after it are those that the rules give
  * (crates/rules). Of the rules, and so by the equations of these calls, one theorem is proved about every list of calls on a store that
@@ -61,8 +61,13 @@ extern "C" {
 #define SANGUEKO_MOST_BLOCKS 65536
 #define SANGUEKO_MOST_PLACES 1048575
 
-/* Bytes that one write or read takes at most. */
+/* Bytes that one write or read takes at most; of many reads in one call, each of them. */
 #define SANGUEKO_MOST_TRANSFER 1048576
+
+/* Bytes of a range in a list, and ranges of a list at most. A range is three numbers of 8 bytes each, least significant byte first: object, offset and
+ * length. */
+#define SANGUEKO_RANGE_BYTES 24
+#define SANGUEKO_MOST_RANGES 64
 
 /* Stack that a call takes at most. */
 #define SANGUEKO_STACK_BYTES 262144
@@ -101,7 +106,9 @@ enum sangueko_refusal {
     /* Too few places for groups. */
     SANGUEKO_NO_GROUP_PLACE = 15,
     /* Too few places for extents. */
-    SANGUEKO_NO_EXTENT_PLACE = 16
+    SANGUEKO_NO_EXTENT_PLACE = 16,
+    /* A list of reads is not whole ranges, has over SANGUEKO_MOST_RANGES of them, or their lengths together exceed the output. Tried right behind 2. */
+    SANGUEKO_BAD_READS = 17
 };
 
 /* What a call answers: number 0 and a count, or the number of its refusal and count 0. */
@@ -218,6 +225,28 @@ struct sangueko_answer sangueko_read(
     const uint8_t *used, size_t used_len,
     const uint8_t *retired, size_t retired_len,
     uint64_t object, uint64_t offset,
+    uint8_t *out, size_t out_len);
+
+/*
+ * Makes the reads of a list in one call: `list` has up to SANGUEKO_MOST_RANGES ranges of SANGUEKO_RANGE_BYTES each, of one file or of several, in any
+ * order, equal or overlapping ones too. `out` is cut into pieces that lie one after another in list order, each as long as its range. A piece becomes
+ * what sangueko_read from the range's offset gives in a buffer of its length: so where the file ends before the range does, or it has more than
+ * SANGUEKO_MOST_TRANSFER bytes, the rest of the piece stays as it is, and the next piece does not move up. What lies behind the last piece stays as it
+ * is. The store is tested once for all of the reads, and every unit once, however many of them have bytes there; no byte is handed out before the last
+ * unit is checked.
+ * Count: the different units in which bytes of the answer lie, those that were never written too; the same unit number in two files is two units. 0 for
+ * an empty list. How many bytes a piece got is not told: it follows from the file's size. Refused, in this order, by 1, 2, 17 (the list), and then
+ * range by range as its read would be: by 3 (no such file, also for a length of 0), and unit by unit by 9 to 12.
+ */
+struct sangueko_answer sangueko_read_many(
+    const uint8_t *image, size_t image_len,
+    const uint8_t *head, size_t head_len,
+    const uint8_t *cards, size_t cards_len,
+    const uint8_t *extents, size_t extents_len,
+    const uint8_t *groups, size_t groups_len,
+    const uint8_t *used, size_t used_len,
+    const uint8_t *retired, size_t retired_len,
+    const uint8_t *list, size_t list_len,
     uint8_t *out, size_t out_len);
 
 #ifdef __cplusplus

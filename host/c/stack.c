@@ -58,6 +58,20 @@ static struct sangueko_answer read_file(void)
     return sangueko_read(LENT, 7, 0, out, sizeof out);
 }
 
+/* As many reads as a list has, each of another byte of the one unit. */
+static struct sangueko_answer read_many(void)
+{
+    static uint8_t list[SANGUEKO_MOST_RANGES * SANGUEKO_RANGE_BYTES];
+    static uint8_t out[SANGUEKO_MOST_RANGES];
+    for (uint8_t i = 0; i < SANGUEKO_MOST_RANGES; i++) {
+        uint8_t *range = list + i * SANGUEKO_RANGE_BYTES;
+        range[0] = 7;
+        range[8] = i;
+        range[16] = 1;
+    }
+    return sangueko_read_many(LENT, list, sizeof list, out, sizeof out);
+}
+
 /* Most of unit 0, and some of unit 1. */
 static struct sangueko_answer write_file(void)
 {
@@ -135,7 +149,8 @@ int main(void)
         struct sangueko_answer (*call)(void);
         uint64_t count;
     } calls[] = { { "fresh", fresh, 0 }, { "enter", enter, 0 }, { "settle", settle, 1 }, { "fill", fill, 46 },
-                  { "read", read_file, SANGUEKO_BLOCK_BYTES }, { "write", write_file, 70000 }, { "grow", grow_file, 0 } };
+                  { "read", read_file, SANGUEKO_BLOCK_BYTES }, { "read_many", read_many, 1 }, { "write", write_file, 70000 },
+                  { "grow", grow_file, 0 } };
     int failed = 0;
     printf("stack:");
     for (size_t i = 0; i < sizeof calls / sizeof calls[0]; i++) {

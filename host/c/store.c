@@ -61,12 +61,17 @@ static uint8_t *pages(size_t len)
     return at;
 }
 
-static void allow(struct store *s, int buffer, int access)
+static void protect(void *at, size_t len, int access)
 {
-    if (mprotect(s->at[buffer], lengths[buffer], access) != 0) {
+    if (mprotect(at, len, access) != 0) {
         perror("mprotect");
         exit(2);
     }
+}
+
+static void allow(struct store *s, int buffer, int access)
+{
+    protect(s->at[buffer], lengths[buffer], access);
 }
 
 static void close_all(struct store *s)
@@ -108,6 +113,40 @@ static struct sangueko_answer read_at(struct store *s, uint64_t object, uint64_t
 {
     memset(out, 0x77, sizeof out);
     return sangueko_read(LENT(s), object, offset, out, len);
+}
+
+struct range {
+    uint64_t object, offset, length;
+};
+
+/* A list of reads as bytes, in pages that cannot be written during the call. It has place for a range more than a list may have. */
+#define LIST ((SANGUEKO_MOST_RANGES + 1) * SANGUEKO_RANGE_BYTES)
+static uint8_t *list;
+
+static void put_number(uint8_t *at, uint64_t number)
+{
+    for (int i = 0; i < 8; i++)
+        at[i] = (uint8_t)(number >> 8 * i);
+}
+
+/* The reads of so many ranges, of whose list so many bytes are lent. */
+static struct sangueko_answer read_list(struct store *s, const struct range *ranges, size_t n, size_t list_len, size_t len)
+{
+    protect(list, LIST, PROT_READ | PROT_WRITE);
+    for (size_t i = 0; i < n; i++) {
+        uint8_t *at = list + i * SANGUEKO_RANGE_BYTES;
+        put_number(at, ranges[i].object);
+        put_number(at + 8, ranges[i].offset);
+        put_number(at + 16, ranges[i].length);
+    }
+    protect(list, LIST, PROT_READ);
+    memset(out, 0x77, sizeof out);
+    return sangueko_read_many(LENT(s), list, list_len, out, len);
+}
+
+static struct sangueko_answer read_many(struct store *s, const struct range *ranges, size_t n)
+{
+    return read_list(s, ranges, n, n * SANGUEKO_RANGE_BYTES, sizeof out);
 }
 
 /* What is written, in pages that cannot be. */
@@ -165,6 +204,30 @@ static int all(const uint8_t *at, size_t len, uint8_t byte)
     return 1;
 }
 
+/* Refused, and no byte handed out. */
+static void unread(const char *what, struct sangueko_answer answer, enum sangueko_refusal number)
+{
+    refused(what, answer, number);
+    EXPECT(what, all(out, sizeof out, 0x77));
+}
+
+/* Lists of reads that are refused by 17 although there is no file 9, and by 3 where they are lists. */
+static void bad_lists(struct store *s)
+{
+    const size_t whole = SANGUEKO_RANGE_BYTES;
+    static const struct range nothing[SANGUEKO_MOST_RANGES + 1]; /* of file 0, which there is not */
+    unread("many reads, half a range", read_list(s, nothing, 2, whole + 1, sizeof out), SANGUEKO_BAD_READS);
+    unread("many reads, one too many", read_many(s, nothing, SANGUEKO_MOST_RANGES + 1), SANGUEKO_BAD_READS);
+    unread("many reads, as many as may be", read_many(s, nothing, SANGUEKO_MOST_RANGES), SANGUEKO_NO_CARD);
+
+    const struct range more[] = { { 9, 0, 15 }, { 9, 0, 2 } };
+    unread("many reads, too little room", read_many(s, more, 2), SANGUEKO_BAD_READS);
+    unread("many reads, just room enough", read_list(s, more + 1, 1, whole, 2), SANGUEKO_NO_CARD);
+    /* lengths whose sum is 2^64 + 16: in 64 bits it would fit */
+    const struct range wide[] = { { 9, 0, UINT64_MAX }, { 9, 0, 17 } };
+    unread("many reads, a sum past 64 bits", read_many(s, wide, 2), SANGUEKO_BAD_READS);
+}
+
 /* Refused calls on a store, which all of them leave as it was. */
 static void refusals(struct store *s, uint8_t *kept[BUFFERS])
 {
@@ -180,8 +243,8 @@ static void refusals(struct store *s, uint8_t *kept[BUFFERS])
         refused("fill, a buffer one byte short", sangueko_fill(LENT(s)), SANGUEKO_WRONG_LENGTH);
         refused("write, a buffer one byte short", write_at(s, 7, 0, 1, 0, 0), SANGUEKO_WRONG_LENGTH);
         refused("grow, a buffer one byte short", grow(s, 7, 1, 0, 0), SANGUEKO_WRONG_LENGTH);
-        refused("read, a buffer one byte short", read_at(s, 7, 0, sizeof out), SANGUEKO_WRONG_LENGTH);
-        EXPECT("read, a buffer one byte short", all(out, sizeof out, 0x77));
+        unread("read, a buffer one byte short", read_at(s, 7, 0, sizeof out), SANGUEKO_WRONG_LENGTH);
+        unread("many reads, a buffer one byte short", read_list(s, NULL, 0, 1, sizeof out), SANGUEKO_WRONG_LENGTH);
         s->len[i]++;
     }
     refused("fresh, a short uuid", fresh(s, sizeof uuid - 1, 1), SANGUEKO_WRONG_LENGTH);
@@ -205,9 +268,9 @@ static void refusals(struct store *s, uint8_t *kept[BUFFERS])
     refused("grow, too many seconds", grow(s, 7, most, most + 1, 0), SANGUEKO_BAD_TIME);
     refused("grow, too many nanoseconds", grow(s, 7, 1, most, 1000000000), SANGUEKO_BAD_TIME);
 
-    refused("read, no such file", read_at(s, 9, 0, sizeof out), SANGUEKO_NO_CARD);
-    EXPECT("read, no such file", all(out, sizeof out, 0x77));
+    unread("read, no such file", read_at(s, 9, 0, sizeof out), SANGUEKO_NO_CARD);
 
+    bad_lists(s);
     open_all(s);
     unchanged("refused calls", s, kept);
 }
@@ -224,9 +287,26 @@ static void broken(struct store *s, uint8_t *kept[BUFFERS])
     refused("write, a broken rule", write_at(s, 9, 0, 0, 0, 0), SANGUEKO_BROKEN_RULE);
     refused("grow, a broken rule", grow(s, 9, 0, 0, 0), SANGUEKO_BROKEN_RULE);
     refused("read, a broken rule", read_at(s, 7, 0, sizeof out), SANGUEKO_BROKEN_RULE);
+    unread("many reads, a broken rule", read_list(s, NULL, 0, 1, sizeof out), SANGUEKO_BROKEN_RULE);
     open_all(s);
     unchanged("a broken rule", s, kept);
     s->at[RETIRED][0] &= 0x7f;
+}
+
+/* Many reads of file 5, of 20 bytes that were never written, and of file 7, which is empty. */
+static void many_reads_of_zeros(struct store *s)
+{
+    accepted("no reads", read_many(s, NULL, 0), 0);
+    /* pieces of 3, 4, 0 and 5 bytes: 3 are read into the second, which reaches past the end, and none into the last */
+    const struct range ranges[] = { { 5, 8, 3 }, { 5, 17, 4 }, { 5, 0, 0 }, { 5, 20, 5 } };
+    accepted("many reads", read_many(s, ranges, 4), 1);
+    EXPECT("many reads", all(out, 6, 0) && all(out + 6, 10, 0x77));
+    accepted("many reads that touch nothing", read_many(s, (const struct range[]){ { 5, UINT64_MAX, 8 }, { 7, 0, 8 } }, 2), 0);
+    EXPECT("many reads that touch nothing", all(out, sizeof out, 0x77));
+
+    /* the last of them refused: nothing of the first is handed out */
+    unread("many reads, no such file", read_many(s, (const struct range[]){ { 5, 8, 3 }, { 9, 0, 1 } }, 2), SANGUEKO_NO_CARD);
+    unread("many reads, nothing of no file", read_many(s, (const struct range[]){ { 5, 8, 3 }, { 9, 0, 0 } }, 2), SANGUEKO_NO_CARD);
 }
 
 /* File 5, with 20 bytes that were never written: reads of them, and a block without a checksum. */
@@ -244,8 +324,19 @@ static void reads(struct store *s, uint8_t *kept[BUFFERS])
     accepted("read at the end", read_at(s, 5, 20, sizeof out), 0);
     accepted("read far past the end", read_at(s, 5, UINT64_MAX, sizeof out), 0);
     EXPECT("read far past the end", all(out, sizeof out, 0x77));
+    many_reads_of_zeros(s);
     open_all(s);
     unchanged("reads", s, kept);
+
+    /* 65,536 bytes more, and 4 of file 7: a read that lies in two units, one in the first of them again, and one in the other file's first */
+    uint8_t *seven = s->at[CARD] + SANGUEKO_CARD_BYTES;
+    s->at[CARD][13] = 2;
+    seven[15] = 8;
+    close_all(s);
+    accepted("many reads of three units", read_many(s, (const struct range[]){ { 5, 65530, 8 }, { 5, 0, 4 }, { 7, 0, 4 } }, 3), 3);
+    EXPECT("many reads of three units", all(out, sizeof out, 0));
+    open_all(s);
+    s->at[CARD][13] = seven[15] = 0;
 
     /* block 3 mapped, and no checksum for its unit */
     static const uint8_t extent[SANGUEKO_EXTENT_BYTES] = { [7] = 5, [8] = 3, [17] = 3, [25] = 1 };
@@ -253,8 +344,9 @@ static void reads(struct store *s, uint8_t *kept[BUFFERS])
     s->at[HEAD][25] = 0x10; /* 20 bits of the number of extents */
     s->at[USED][0] |= 8;
     close_all(s);
-    refused("read, no checksum", read_at(s, 5, 8, sizeof out), SANGUEKO_NO_CHECKSUM);
-    EXPECT("read, no checksum", all(out, sizeof out, 0x77));
+    unread("read, no checksum", read_at(s, 5, 8, sizeof out), SANGUEKO_NO_CHECKSUM);
+    /* file 7 is empty: its read hands out nothing, and the one behind it is refused */
+    unread("many reads, no checksum", read_many(s, (const struct range[]){ { 7, 0, 4 }, { 5, 8, 4 }, { 9, 0, 1 } }, 3), SANGUEKO_NO_CHECKSUM);
     open_all(s);
     memset(s->at[EXTENT], 0, sizeof extent);
     s->at[HEAD][25] = 0;
@@ -331,6 +423,16 @@ static void reads_as(const char *what, struct store *s, const uint8_t *file, siz
     }
 }
 
+/* Ranges of file 7, of 20,000 bytes, out of order, overlapping and equal: their pieces lie in list order. */
+static void reads_in_pieces(const char *what, struct store *s, const uint8_t *file)
+{
+    const struct range ranges[] = { { 7, 19998, 5 }, { 5, 0, 1 }, { 7, 4094, 4 }, { 7, 4095, 2 }, { 7, 4094, 4 } };
+    accepted(what, read_many(s, ranges, 5), 1);
+    EXPECT(what, memcmp(out, file + 19998, 2) == 0 && all(out + 2, 4, 0x77));
+    EXPECT(what, memcmp(out + 6, file + 4094, 4) == 0 && memcmp(out + 10, file + 4095, 2) == 0);
+    EXPECT(what, memcmp(out + 12, file + 4094, 4) == 0);
+}
+
 /* A write of a byte and a grow of file 7, of 20,000 bytes, that are both refused, and change nothing. */
 static void both_refused(const char *what, struct store *s, uint8_t *kept[BUFFERS], enum sangueko_refusal number)
 {
@@ -340,6 +442,16 @@ static void both_refused(const char *what, struct store *s, uint8_t *kept[BUFFER
     refused(what, grow(s, 7, 20001, 0, 0), number);
     open_all(s);
     unchanged(what, s, kept);
+}
+
+/* The same of a unit that is damaged, which no read gets past: neither one alone nor the second of three, before the third is tried. */
+static void damaged(const char *what, struct store *s, uint8_t *kept[BUFFERS], enum sangueko_refusal number)
+{
+    both_refused(what, s, kept, number);
+    close_all(s);
+    unread(what, read_at(s, 7, 0, 1), number);
+    unread(what, read_many(s, (const struct range[]){ { 5, 0, 1 }, { 7, 0, 1 }, { 9, 0, 1 } }, 3), number);
+    open_all(s);
 }
 
 /* File 7 written and grown as in document 01's program `layout`, and the refusals that its records bring about. */
@@ -398,6 +510,7 @@ static void changes(struct store *s, uint8_t *kept[BUFFERS])
     kept[RETIRED][0] = 0x20;
     unchanged("grow to 20,000", s, kept);
     reads_as("grow to 20,000", s, file, 20000);
+    reads_in_pieces("many reads", s, file);
     accepted("fill, seven used", sangueko_fill(LENT(s)), 875);
 
     close_all(s);
@@ -415,20 +528,21 @@ static void changes(struct store *s, uint8_t *kept[BUFFERS])
     uint8_t *card = s->at[CARD] + SANGUEKO_CARD_BYTES;
     put_bits(card, 127, 35, 0);
     both_refused("a wrong count", s, kept, SANGUEKO_COUNT_DISAGREES);
+    reads_in_pieces("many reads, a wrong count", s, file);
     put_bits(card, 127, 35, 5);
 
     /* a byte of the file, and one past its end in its last block */
     s->at[IMAGE][4 * SANGUEKO_BLOCK_BYTES] ^= 1;
-    both_refused("a changed byte", s, kept, SANGUEKO_CHECKSUM_DIFFERS);
+    damaged("a changed byte", s, kept, SANGUEKO_CHECKSUM_DIFFERS);
     s->at[IMAGE][6 * SANGUEKO_BLOCK_BYTES + 20000 % SANGUEKO_BLOCK_BYTES] ^= 1;
-    both_refused("a byte past the end", s, kept, SANGUEKO_NONZERO_PAST_END);
+    damaged("a byte past the end", s, kept, SANGUEKO_NONZERO_PAST_END);
 
     /* its last block not mapped, and then no checksum */
     memset(s->at[EXTENT] + 3 * SANGUEKO_EXTENT_BYTES, 0, SANGUEKO_EXTENT_BYTES);
     put_bits(s->at[HEAD], 184, 20, 3);
-    both_refused("a block that is not there", s, kept, SANGUEKO_NOT_BACKED);
+    damaged("a block that is not there", s, kept, SANGUEKO_NOT_BACKED);
     memset(s->at[GROUP] + 17, 0, SANGUEKO_GROUP_BYTES - 17);
-    both_refused("no checksum", s, kept, SANGUEKO_NO_CHECKSUM);
+    damaged("no checksum", s, kept, SANGUEKO_NO_CHECKSUM);
 }
 
 /* The books may have no place: any pointer that is not null will do. */
@@ -445,6 +559,8 @@ static void no_places(struct store *s)
     refused("enter, no places", enter(&bare, 7, 0, 0), SANGUEKO_NO_CARD_PLACE);
     refused("write, no places", write_at(&bare, 7, 0, 1, 0, 0), SANGUEKO_NO_CARD);
     refused("grow, no places", grow(&bare, 7, 1, 0, 0), SANGUEKO_NO_CARD);
+    accepted("no reads, no places", read_many(&bare, NULL, 0), 0);
+    unread("many reads, no places", read_many(&bare, (const struct range[]){ { 7, 0, 1 } }, 1), SANGUEKO_NO_CARD);
 }
 
 int main(void)
@@ -460,10 +576,8 @@ int main(void)
     bytes = pages(BYTES);
     for (size_t i = 0; i < BYTES; i++)
         bytes[i] = (uint8_t)(i * 7 + i / 256 + 1);
-    if (mprotect(bytes, BYTES, PROT_READ) != 0) {
-        perror("mprotect");
-        return 2;
-    }
+    protect(bytes, BYTES, PROT_READ);
+    list = pages(LIST);
 
     /* a fresh store in buffers of anything */
     open_for(&s, (const int[]){ HEAD, CARD, EXTENT, GROUP, USED, RETIRED }, 6);
@@ -520,6 +634,6 @@ int main(void)
         printf("store: %d differences\n", differences);
         return 1;
     }
-    printf("store: the seven calls as asked; each of the sixteen refusals changes nothing\n");
+    printf("store: the eight calls as asked; each of the seventeen refusals changes nothing\n");
     return 0;
 }

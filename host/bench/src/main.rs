@@ -1,11 +1,13 @@
 //! The calls of the library against the published Rust, in one run: our time
 //! over that of file.rs on a mounted store, with the processor's checksum
 //! instruction and with slicing by 8. The calls here test the whole store each
-//! time, which the Rust does not; what that costs is shown apart.
+//! time, which the Rust does not; what that costs is shown apart. Many reads in
+//! one call, which the Rust does not have, stand beside as many calls.
 //!
-//! `bench [reads] [writes] [extents]`: those parts, or all of them.
+//! `bench [reads] [many] [writes] [extents]`: those parts, or all of them.
 
 mod checksum;
+mod many;
 #[path = "../../probe/src/bin/bench/measure.rs"]
 #[allow(dead_code)]
 mod measure;
@@ -34,7 +36,7 @@ fn main() {
     let asked: Vec<String> = std::env::args().skip(1).collect();
     let part = |name: &str| asked.is_empty() || asked.iter().any(|asked| asked == name);
     for (on, shape, many) in STORES {
-        if !part("reads") && !part("writes") {
+        if !["reads", "many", "writes"].into_iter().any(part) {
             break;
         }
         println!("-- {on}");
@@ -44,6 +46,9 @@ fn main() {
         let mut mounted = Mounted::new(&store);
         if part("reads") {
             reads::compared(&mut store, &mut mounted, many);
+        }
+        if part("many") {
+            many::compared(&mut store);
         }
         if part("writes") {
             writes::compared(&mut store, &mut mounted, many);

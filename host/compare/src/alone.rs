@@ -7,6 +7,8 @@ use model::crc32c::unit_checksum;
 use model::records::{CARD_BYTES, EXTENT_BYTES, GROUP_BYTES, put_bits};
 use model::{BLOCK_BYTES, Call, Card, Extent, Group, Store, Time, UNIT_BYTES, Volume};
 
+use crate::lists::read_many;
+
 pub struct Alone {
     /// The wrong model without this word; none where no such model can go on.
     pub word: Option<&'static str>,
@@ -29,7 +31,7 @@ const D: u64 = 20;
 const E: u64 = 21;
 const LAST: u64 = u64::MAX - 1;
 
-/// The calls that meet every store: each of the seven, and those that change
+/// The calls that meet every store: each of the eight, and those that change
 /// nothing. On the sound store all are accepted.
 pub fn calls() -> Vec<Call> {
     let write = |bytes: &[u8]| Call::Write {
@@ -62,8 +64,15 @@ pub fn calls() -> Vec<Call> {
         write(&[]),
         grow(1_000),
         read(0),
+        read_many(&[(C, 65_500, 50), (A, 8_990, 20), (C, 0, 10)], 90),
+        read_many(&[], 0),
         fresh(16, 0),
     ]
+}
+
+/// A list that refusal 17 refuses, which is tried after 1 and 2.
+pub fn bad_reads() -> Call {
+    read_many(&[(C, 0, 11)], 10)
 }
 
 pub fn fresh(uuid: usize, reserved: u64) -> Call {

@@ -10,6 +10,8 @@ use model::{
 };
 
 use crate::alone::{TIME, fresh, seal};
+use crate::lists::read_many;
+use crate::many::many;
 use crate::smallest::smallest;
 
 /// One call on a store; many share one.
@@ -19,7 +21,7 @@ pub struct Edge {
     pub call: Call,
 }
 
-fn edge(name: impl Into<String>, store: &Arc<Store>, call: Call) -> Edge {
+pub(crate) fn edge(name: impl Into<String>, store: &Arc<Store>, call: Call) -> Edge {
     Edge {
         name: name.into(),
         store: store.clone(),
@@ -36,11 +38,11 @@ fn write_at(object: u64, offset: u64, length: usize, time: Time) -> Call {
     }
 }
 
-fn write(object: u64, offset: u64, length: usize) -> Call {
+pub(crate) fn write(object: u64, offset: u64, length: usize) -> Call {
     write_at(object, offset, length, TIME)
 }
 
-fn grow(object: u64, size: u64) -> Call {
+pub(crate) fn grow(object: u64, size: u64) -> Call {
     Call::Grow {
         object,
         size,
@@ -56,12 +58,12 @@ fn read(object: u64, offset: u64, length: usize) -> Call {
     }
 }
 
-fn enter(object: u64) -> Call {
+pub(crate) fn enter(object: u64) -> Call {
     Call::Enter { object, time: TIME }
 }
 
 /// A store after fresh and these calls.
-fn after(mut store: Store, reserved: u64, calls: &[Call]) -> Arc<Store> {
+pub(crate) fn after(mut store: Store, reserved: u64, calls: &[Call]) -> Arc<Store> {
     model::run(&mut store, &fresh(16, reserved));
     for call in calls {
         let number = model::run(&mut store, call).number;
@@ -71,7 +73,7 @@ fn after(mut store: Store, reserved: u64, calls: &[Call]) -> Arc<Store> {
 }
 
 /// The store with a change.
-fn with(store: &Store, change: impl FnOnce(&mut Store)) -> Arc<Store> {
+pub(crate) fn with(store: &Store, change: impl FnOnce(&mut Store)) -> Arc<Store> {
     let mut changed = store.clone();
     change(&mut changed);
     Arc::new(changed)
@@ -93,6 +95,7 @@ pub fn edges() -> Vec<Edge> {
     holes(&mut all);
     neighbours(&mut all);
     shared(&mut all);
+    all.extend(many());
     all
 }
 
@@ -303,6 +306,10 @@ fn nothing(all: &mut Vec<Edge>) {
             grow(7, 1),
             read(7, 0, 0),
             read(7, 0, 1),
+            read_many(&[], 0),
+            read_many(&[(7, 0, 0)], 0),
+            read_many(&[(7, 0, 1)], 1),
+            read_many(&[(7, 0, 1)], 0),
             Call::Settle,
             Call::Fill,
         ] {
@@ -319,6 +326,8 @@ fn nothing(all: &mut Vec<Edge>) {
             write(7, 1, 1),
             grow(7, 9),
             read(7, 0, 9),
+            read_many(&[(7, 0, 9)], 9),
+            read_many(&[(7, 0, 9)], 8),
             Call::Fill,
         ] {
             all.push(edge("with one buffer empty", &other, call));
@@ -481,7 +490,7 @@ fn shared(all: &mut Vec<Edge>) {
 
 /// What a unit of [`pairs`] is like.
 #[derive(Clone, Copy, Debug, PartialEq)]
-enum Unit {
+pub(crate) enum Unit {
     Sound,
     Hole,
     /// Extents and no slot.
@@ -561,7 +570,7 @@ pub fn pairs() -> Vec<Edge> {
 }
 
 /// A file 7 of 70,000 bytes beside a file 8, on 64 blocks.
-fn pair(first: Unit, second: Unit, free: usize, count: Option<u64>) -> Store {
+pub(crate) fn pair(first: Unit, second: Unit, free: usize, count: Option<u64>) -> Store {
     let mut store = Store::blank(64, 2, 60, 3);
     for (at, byte) in store.image.iter_mut().enumerate() {
         *byte = (at % 253) as u8;
@@ -682,7 +691,10 @@ pub fn wide() -> (Store, Vec<(Volume, Call)>) {
 /// Stores at the upper bounds of refusal 1, which are large and zero but for
 /// the head, with calls that answer or refuse and change nothing.
 pub fn large() -> impl Iterator<Item = (&'static str, Store, Vec<Call>)> {
-    let reads = || vec![Call::Fill, read(7, 0, 5), write(7, 0, 5), grow(7, 5)];
+    let reads = || {
+        let many = read_many(&[(7, 0, 5)], 5);
+        vec![Call::Fill, read(7, 0, 5), many, write(7, 0, 5), grow(7, 5)]
+    };
     let every = move || [reads(), vec![Call::Settle, enter(7), fresh(16, 0)]].concat();
     let with_places = |name, cards, extents, groups| {
         let store = Store::blank(1, cards, extents, groups);

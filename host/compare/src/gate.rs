@@ -10,7 +10,7 @@ use std::time::Duration;
 
 use model::{Answer, Call, Store, passes_refusals_1_and_2};
 
-use crate::alone::{alone, calls, sounds};
+use crate::alone::{alone, bad_reads, calls, sounds};
 use crate::broken::broken_stores;
 use crate::edges::{Edge, edges, large, pairs, wide};
 use crate::guard::{Guarded, Side};
@@ -22,11 +22,11 @@ use crate::walk::{Event, Walk};
 /// The seed of the gate's histories.
 pub const SEED: u64 = 31;
 /// Calls of histories that the gate makes.
-pub const HISTORY_CALLS: u64 = 20_000;
+pub const HISTORY_CALLS: u64 = 23_000;
 /// Of those, before the calls of [`pairs`] and the large stores.
 const EARLY_CALLS: u64 = 2_000;
 /// Calls of histories between guard pages, on each side.
-const GUARDED_CALLS: u64 = 1_500;
+const GUARDED_CALLS: u64 = 1_750;
 
 /// How long a failing case is made smaller.
 const SHRINKING: Duration = Duration::from_secs(10);
@@ -345,8 +345,17 @@ impl<'a> Gate<'a> {
     /// The calls by name and number.
     pub fn report(&self) -> String {
         let mut text = format!("{} calls, by the model's number:\n", self.calls);
-        for name in ["fresh", "enter", "write", "grow", "read", "settle", "fill"] {
-            let _ = write!(text, "  {name:6}");
+        for name in [
+            "fresh",
+            "enter",
+            "write",
+            "grow",
+            "read",
+            "read_many",
+            "settle",
+            "fill",
+        ] {
+            let _ = write!(text, "  {name:9}");
             for ((_, number), count) in self.answers.iter().filter(|((n, _), _)| *n == name) {
                 let _ = write!(text, "  {number}: {count}");
             }
@@ -375,8 +384,8 @@ fn prepared(edges: Vec<Edge>) -> Vec<Single> {
     edges.into_iter().map(prepare).collect()
 }
 
-/// The sound stores and those that break a word, met by every call; and the
-/// broken stores that are recorded.
+/// The sound stores and those that break a word, met by every call and by a
+/// list that refusal 17 refuses; and the broken stores that are recorded.
 fn met_by_every_call() -> Vec<Edge> {
     let sound = sounds().map(|store| ("a sound store".into(), Arc::new(store)));
     let alone = alone()
@@ -391,7 +400,7 @@ fn met_by_every_call() -> Vec<Edge> {
                 store: Arc::clone(&store),
                 call,
             };
-            calls().into_iter().map(met)
+            calls().into_iter().chain([bad_reads()]).map(met)
         });
     let recorded = broken_stores().into_iter().map(|broken| Edge {
         name: broken.name.into(),

@@ -170,6 +170,14 @@ impl History {
         Store::blank(blocks, cards as usize, extents as usize, groups as usize)
     }
 
+    /// An object, mostly one with a card, and an offset in or near its file,
+    /// by a generator of the caller's.
+    pub fn place(&self, rng: &mut Rng, volume: &Volume) -> (u64, u64) {
+        let object = object(rng, &self.objects, volume);
+        let size = volume.card(object).map_or(0, |card| card.size);
+        (object, position(rng, self.profile, self.home, size))
+    }
+
     /// The step after those that led to `store`, or `None` at the end.
     pub fn next(&mut self, store: &Store) -> Option<Step> {
         if let Some(step) = self.opening.pop_front() {
@@ -189,17 +197,7 @@ impl History {
             return Some(Step::Damage);
         }
         let rng = &mut self.rng;
-        let object = if rng.percent(2) || volume.cards.is_empty() {
-            rng.pick(&self.objects)
-        } else {
-            let at = rng.index(volume.cards.len());
-            volume.cards[at].object
-        };
-        let object = if rng.percent(1) {
-            rng.next_u64()
-        } else {
-            object
-        };
+        let object = object(rng, &self.objects, &volume);
         let size = volume.card(object).map_or(0, |card| card.size);
         let call = match rng.below(100) {
             0..50 => {
@@ -271,6 +269,22 @@ impl History {
             _ => Call::Fill,
         };
         Some(Step::Call(call))
+    }
+}
+
+/// Mostly one that has a card, now and then another of the history's, seldom
+/// any.
+fn object(rng: &mut Rng, objects: &[u64], volume: &Volume) -> u64 {
+    let object = if rng.percent(2) || volume.cards.is_empty() {
+        rng.pick(objects)
+    } else {
+        let at = rng.index(volume.cards.len());
+        volume.cards[at].object
+    };
+    if rng.percent(1) {
+        rng.next_u64()
+    } else {
+        object
     }
 }
 

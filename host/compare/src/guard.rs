@@ -127,6 +127,17 @@ pub struct Guarded<'a> {
     pub side: Side,
 }
 
+impl Guarded<'_> {
+    /// A call with its output buffer between pages, whose bytes then become
+    /// the output's.
+    fn between_pages(&self, out: &mut [u8], call: impl FnOnce(&mut [u8]) -> Told) -> Told {
+        let mut pages = Pages::new(out, self.side);
+        let told = call(pages.bytes_mut());
+        out.copy_from_slice(pages.bytes());
+        told
+    }
+}
+
 impl Library for Guarded<'_> {
     fn supports(&self, call: &Call) -> bool {
         self.library.supports(call)
@@ -167,15 +178,24 @@ impl Library for Guarded<'_> {
                 offset,
                 out,
             } => {
-                let mut pages = Pages::new(out, self.side);
-                let request = Request::Read {
-                    object,
-                    offset,
-                    out: pages.bytes_mut(),
+                let read = |out: &mut [u8]| {
+                    let request = Request::Read {
+                        object,
+                        offset,
+                        out,
+                    };
+                    self.library.lent(guarded, request)
                 };
-                let told = self.library.lent(guarded, request);
-                out.copy_from_slice(pages.bytes());
-                told
+                self.between_pages(out, read)
+            }
+            Request::ReadMany { list, out } => {
+                let list = Pages::read_only(list, self.side);
+                let list = list.bytes();
+                let read = |out: &mut [u8]| {
+                    let request = Request::ReadMany { list, out };
+                    self.library.lent(guarded, request)
+                };
+                self.between_pages(out, read)
             }
             request => self.library.lent(guarded, request),
         };

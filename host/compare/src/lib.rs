@@ -1,6 +1,6 @@
 //! Runs calls through document 01's model and what is held against it: the
 //! published Rust (`run`), where listed differences are forgiven, and a library
-//! of the seven calls (`gate`), where none is; or through all three (`three`).
+//! of the eight calls (`gate`), where none is; or through all three (`three`).
 //! `plain` holds a library against demand 3's plain arrays.
 
 pub mod alone;
@@ -12,6 +12,8 @@ pub mod gate;
 pub mod generate;
 pub mod guard;
 pub mod library;
+pub mod lists;
+pub mod many;
 pub mod plain;
 pub mod recorded;
 pub mod rough;

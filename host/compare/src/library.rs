@@ -1,4 +1,4 @@
-//! What is held against the model: a library of the seven calls over lent
+//! What is held against the model: a library of the eight calls over lent
 //! buffers. The model itself, a wrong model and the linked archive can all
 //! stand behind it.
 
@@ -42,6 +42,10 @@ pub enum Request<'a> {
     Read {
         object: u64,
         offset: u64,
+        out: &'a mut [u8],
+    },
+    ReadMany {
+        list: &'a [u8],
         out: &'a mut [u8],
     },
     Settle,
@@ -139,6 +143,7 @@ pub fn request<'a>(call: &'a Call, out: &'a mut [u8]) -> Request<'a> {
             offset,
             out,
         },
+        Call::ReadMany { ref list, .. } => Request::ReadMany { list, out },
         Call::Settle => Request::Settle,
         Call::Fill => Request::Fill,
     }
@@ -224,6 +229,13 @@ fn owned(request: Request<'_>) -> (Call, Option<&mut [u8]>) {
                 object,
                 offset,
                 length,
+            };
+            return (call, Some(out));
+        }
+        Request::ReadMany { list, out } => {
+            let call = Call::ReadMany {
+                list: list.to_vec(),
+                length: out.len(),
             };
             return (call, Some(out));
         }

@@ -3,10 +3,11 @@
 
 use std::collections::{BTreeMap, BTreeSet};
 
-use model::{Answer, Call, MAX_TRANSFER_BYTES, Store, Volume};
+use model::{Answer, Call, MAX_TRANSFER_BYTES, MAX_TRIPLES, Store, Triple, Volume};
 
-use crate::generate::{History, Profile};
+use crate::generate::Profile;
 use crate::library::Library;
+use crate::lists::{different_units, lengths, single_read};
 use crate::walk::Walk;
 
 /// An object's bytes: zeros up to its size, which may be 2^63 - 1, under the
@@ -29,6 +30,17 @@ impl Plain {
             }
         }
         bytes
+    }
+
+    /// A read into the buffer: how many bytes it hands out.
+    fn read(&self, offset: u64, buffer: &mut [u8]) -> u64 {
+        let count = self
+            .size
+            .saturating_sub(offset)
+            .min(buffer.len() as u64)
+            .min(MAX_TRANSFER_BYTES as u64);
+        buffer[..count as usize].copy_from_slice(&self.bytes(offset, count));
+        count
     }
 }
 
@@ -57,7 +69,7 @@ fn step(files: &mut BTreeMap<u64, Plain>, call: &Call) {
                 .expect("a grow that was accepted")
                 .size = *size;
         }
-        Call::Read { .. } | Call::Settle | Call::Fill => {}
+        Call::Read { .. } | Call::ReadMany { .. } | Call::Settle | Call::Fill => {}
     }
 }
 
@@ -89,13 +101,14 @@ fn blocks_add_up(store: &Store, reserved: u64) -> bool {
             .all(|card| card.allocated == places(card.object))
 }
 
-/// The calls of a history through the library: every accepted read has the
-/// plain array's count and bytes, every block is in one place, every card's
-/// count is right, and no number comes that demand 3 shuts out. At the end
-/// every byte that was written is read again. Calls that the library does not
-/// have are the model's. Gives the number of its calls.
+/// The calls of a history through the library: every accepted read, and many
+/// in one call, have the plain array's count and bytes, every block is in one
+/// place, every card's count is right, and no number comes that demand 3 shuts
+/// out. At the end every byte that was written is read again, by single reads
+/// and by many in one call. Calls that the library does not have are the
+/// model's. Gives the number of its calls.
 pub fn demand_3(library: &dyn Library, seed: u64, number: u64) -> u64 {
-    let mut walk = Walk::new(History::new(seed, number));
+    let mut walk = Walk::with_lists(seed, number);
     if walk.history.profile == Profile::Groups {
         return 0;
     }
@@ -137,30 +150,29 @@ pub fn demand_3(library: &dyn Library, seed: u64, number: u64) -> u64 {
 }
 
 /// An accepted read has the plain array's count and bytes, and the rest of its
-/// buffer is as it was.
+/// buffer is as it was. Of many in one call each has its piece of the buffer,
+/// and the count is the number of different units.
 fn read_is_plain(files: &BTreeMap<u64, Plain>, call: &Call, answer: &Answer, what: &str) {
-    let Call::Read {
-        object,
-        offset,
-        length,
-    } = *call
-    else {
-        return;
-    };
-    let file = &files[&object];
-    let count = file
-        .size
-        .saturating_sub(offset)
-        .min(length as u64)
-        .min(MAX_TRANSFER_BYTES as u64);
     let mut expected = call.blank_output();
-    expected[..count as usize].copy_from_slice(&file.bytes(offset, count));
+    let count = match call {
+        Call::Read { object, offset, .. } => files[object].read(*offset, &mut expected),
+        Call::ReadMany { list, .. } => {
+            let mut start = 0;
+            different_units(Triple::all(list).map(|triple| {
+                let piece = &mut expected[start..start + triple.length as usize];
+                start += piece.len();
+                let count = files[&triple.object].read(triple.offset, piece);
+                (triple.object, triple.offset, count)
+            }))
+        }
+        _ => return,
+    };
     assert_eq!(answer.count, count, "{what}");
     assert!(answer.output == expected, "{what}: the bytes part");
 }
 
 /// Reads of every stretch that was written, with some bytes on either side, and
-/// of every file's end.
+/// of every file's end: one by one, and as many in one call as a list has.
 fn reads_of_all(files: &BTreeMap<u64, Plain>) -> Vec<Call> {
     let beside = 5_000;
     let mut stretches = BTreeSet::new();
@@ -174,11 +186,17 @@ fn reads_of_all(files: &BTreeMap<u64, Plain>) -> Vec<Call> {
     let reads = stretches.into_iter().flat_map(|(object, from, to)| {
         // Two where one read cannot take so much.
         let offsets = (from..=to).step_by(MAX_TRANSFER_BYTES);
-        offsets.map(move |offset| Call::Read {
+        offsets.map(move |offset| Triple {
             object,
             offset,
-            length: (to - offset + beside) as usize,
+            length: to - offset + beside,
         })
     });
-    reads.collect()
+    let reads: Vec<Triple> = reads.collect();
+    let single = reads.iter().map(single_read);
+    let many = reads.chunks(MAX_TRIPLES).map(|reads| Call::ReadMany {
+        list: Triple::list(reads),
+        length: lengths(reads) as usize,
+    });
+    single.chain(many).collect()
 }

@@ -216,6 +216,12 @@ impl Writer {
             }
             Call::Settle => self.u8(5),
             Call::Fill => self.u8(6),
+            Call::ReadMany { list, length } => {
+                self.u8(7);
+                self.u32(list.len());
+                self.packed(list);
+                self.u32(*length);
+            }
         }
         self.u32(case.answer.number as usize);
         self.u64(case.answer.count);
@@ -344,6 +350,13 @@ impl<'a> Reader<'a> {
             },
             5 => Call::Settle,
             6 => Call::Fill,
+            7 => {
+                let length = self.u32();
+                Call::ReadMany {
+                    list: self.packed(length),
+                    length: self.u32(),
+                }
+            }
             kind => panic!("a call of kind {kind}"),
         }
     }

@@ -4,10 +4,11 @@ use std::collections::BTreeMap;
 use std::fmt::Write;
 
 use model::{Answer, BLOCK_BYTES, Call, Store, Volume};
-use oracle::OracleAnswer;
+use oracle::{OracleAnswer, Outcome};
 
 use crate::differences::Difference;
-use crate::generate::{History, Profile};
+use crate::generate::Profile;
+use crate::lists::by_single_reads;
 use crate::walk::{Event, Walk};
 
 /// The side that is held against the model: the oracle, or a library that
@@ -27,6 +28,8 @@ pub struct Tally {
     pub histories: u64,
     pub calls: u64,
     pub compared: u64,
+    /// Many reads in one call, held against single reads.
+    pub many: u64,
     /// Compared calls by name and the document's number.
     pub answers: BTreeMap<(&'static str, u32), u64>,
     pub listed: BTreeMap<Difference, u64>,
@@ -100,7 +103,8 @@ fn verdict(
     }
 }
 
-/// What both sides made of one call on copies of one store.
+/// What both sides made of one call on copies of one store. Where the document
+/// alone has an answer, nothing parts from it.
 pub struct Judged {
     pub verdict: Verdict,
     pub answer: Answer,
@@ -109,14 +113,33 @@ pub struct Judged {
     pub after: Store,
 }
 
+/// What the other side makes of a call that the document answers so: of many
+/// reads in one call its single reads in list order. `None` where the document
+/// alone has an answer.
+fn ask(other: Other<'_>, store: &mut Store, call: &Call, answer: &Answer) -> Option<OracleAnswer> {
+    match call {
+        Call::ReadMany { .. } if matches!(answer.number, 1 | 2 | 17) => None,
+        Call::ReadMany { list, length } => {
+            Some(by_single_reads(list, *length, |read| other(store, read)))
+        }
+        call => call.compared().then(|| other(store, call)),
+    }
+}
+
 pub fn judge(store: &Store, call: &Call, other: Other<'_>) -> Judged {
     let (mut after, mut right) = (store.clone(), store.clone());
     let answer = model::run(&mut after, call);
-    let told = other(&mut right, call);
+    let told = ask(other, &mut right, call, &answer);
+    let verdict = told.as_ref().map_or(Verdict::Agree, |told| {
+        verdict(call, &after, &answer, told, after == right)
+    });
     Judged {
-        verdict: verdict(call, &after, &answer, &told, after == right),
+        verdict,
+        told: told.unwrap_or_else(|| OracleAnswer {
+            outcome: Outcome::NoCounterpart,
+            output: call.blank_output(),
+        }),
         answer,
-        told,
         after,
     }
 }
@@ -131,7 +154,7 @@ pub fn compare_history(
     watched_history(seed, number, &|_, _| {}, other, tally)
 }
 
-/// The same, where `watch` is shown each call, of all seven, with the store
+/// The same, where `watch` is shown each call, of all eight, with the store
 /// before it.
 pub fn watched_history(
     seed: u64,
@@ -140,7 +163,7 @@ pub fn watched_history(
     other: Other<'_>,
     tally: &mut Tally,
 ) -> Result<(), Box<Failure>> {
-    let mut walk = Walk::new(History::new(seed, number));
+    let mut walk = Walk::with_lists(seed, number);
     let mut rust = walk.store.clone();
     *tally.profiles.entry(walk.history.profile).or_default() += 1;
     tally.histories += 1;
@@ -161,16 +184,20 @@ pub fn watched_history(
         let answer = model::run(&mut walk.store, &call);
         // A place that a damaged store shares may be kept and retired at
         // once; every later call is then refused by 2, which the Rust does
-        // not have.
-        if answer.number == 2 {
+        // not have. Many reads, which stand beside the history, do not end it.
+        let many = matches!(call, Call::ReadMany { .. });
+        if answer.number == 2 && !many {
             break;
         }
-        if !call.compared() {
+        let Some(told) = ask(other, &mut rust, &call, &answer) else {
             rust.copy_records_from(&walk.store);
             continue;
+        };
+        if many {
+            tally.many += 1;
+        } else {
+            tally.compared += 1;
         }
-        let told = other(&mut rust, &call);
-        tally.compared += 1;
         *tally
             .answers
             .entry((call.name(), answer.number))
@@ -212,7 +239,7 @@ pub fn watched_history(
 
 /// The store before a step of a history, and the step's call.
 pub fn rebuild(seed: u64, number: u64, step: usize) -> (Store, Call) {
-    let mut walk = Walk::new(History::new(seed, number));
+    let mut walk = Walk::with_lists(seed, number);
     let mut last = (walk.store.clone(), Call::Fill);
     while walk.step < step {
         match walk.event() {
@@ -234,13 +261,13 @@ impl Tally {
         let mut text = String::new();
         let _ = writeln!(
             text,
-            "{} histories, {} calls, {} of them compared",
-            self.histories, self.calls, self.compared
+            "{} histories, {} calls, {} of them compared, {} of many reads by single reads",
+            self.histories, self.calls, self.compared, self.many
         );
         let _ = writeln!(text, "profiles: {:?}", self.profiles);
         let _ = writeln!(text, "answers by the document's number:");
-        for name in ["write", "grow", "read"] {
-            let mut line = format!("  {name:5}");
+        for name in ["write", "grow", "read", "read_many"] {
+            let mut line = format!("  {name:9}");
             for ((_, number), count) in self.answers.iter().filter(|((n, _), _)| *n == name) {
                 let _ = write!(line, "  {number}: {count}");
             }

@@ -3,7 +3,10 @@
 use std::fmt::Write;
 use std::time::{Duration, Instant};
 
-use model::{BLOCK_BYTES, Call, Extent, Store, Volume, passes_refusals_1_and_2};
+use model::records::TRIPLE_BYTES;
+use model::{BLOCK_BYTES, Call, Extent, Store, Triple, Volume, passes_refusals_1_and_2};
+
+use crate::lists::lengths;
 
 /// Take away what the difference does not need: bytes, files, records, bits,
 /// image contents. `parts` says whether a candidate still shows it, `budget`
@@ -60,14 +63,10 @@ fn simpler_calls(call: &Call) -> Vec<Call> {
                 });
             };
             let length = bytes.len();
-            for shorter in [1, length / 16, length / 2, length.saturating_sub(1)] {
-                if (1..length).contains(&shorter) {
-                    with(*offset, bytes[..shorter].to_vec());
-                    with(
-                        offset + (length - shorter) as u64,
-                        bytes[length - shorter..].to_vec(),
-                    );
-                }
+            for shorter in shorter(length as u64) {
+                let cut = length - shorter as usize;
+                with(*offset, bytes[..length - cut].to_vec());
+                with(offset + cut as u64, bytes[cut..].to_vec());
             }
             if bytes.iter().any(|&byte| byte != 1) {
                 with(*offset, vec![1; length]);
@@ -82,14 +81,12 @@ fn simpler_calls(call: &Call) -> Vec<Call> {
             offset,
             length,
         } => {
-            for shorter in [1, length / 16, length / 2, length.saturating_sub(1)] {
-                if (1..*length).contains(&shorter) {
-                    simpler.push(Call::Read {
-                        object: *object,
-                        offset: *offset,
-                        length: shorter,
-                    });
-                }
+            for shorter in shorter(*length as u64) {
+                simpler.push(Call::Read {
+                    object: *object,
+                    offset: *offset,
+                    length: shorter as usize,
+                });
             }
             if *offset > 0 {
                 simpler.push(Call::Read {
@@ -99,7 +96,76 @@ fn simpler_calls(call: &Call) -> Vec<Call> {
                 });
             }
         }
+        Call::ReadMany { list, length } => simpler = simpler_lists(list, *length),
         _ => {}
+    }
+    simpler
+}
+
+/// Shorter lengths, the shortest first; the last ones take ever less away, so
+/// that a bound in between is soon met.
+fn shorter(length: u64) -> impl Iterator<Item = u64> {
+    let halves = [1, length / 16, length / 2];
+    let less = [8, 128, 2_048, length].map(|part| length - length.checked_div(part).unwrap_or(0));
+    let within = move |shorter: &u64| (1..length).contains(shorter);
+    halves.into_iter().chain(less).filter(within)
+}
+
+/// Fewer triples, then shorter reads and reads from the start on. What the
+/// output has more than the lengths, or less, stays as it is, or goes.
+fn simpler_lists(list: &[u8], length: usize) -> Vec<Call> {
+    let triples: Vec<Triple> = Triple::all(list).collect();
+    let rest = &list[triples.len() * TRIPLE_BYTES..];
+    let spare = length as i128 - lengths(&triples) as i128;
+    let call = |triples: &[Triple], rest: &[u8], spare: i128| {
+        let wanted = lengths(triples) as i128 + spare;
+        Call::ReadMany {
+            list: [&Triple::list(triples), rest].concat(),
+            length: wanted.clamp(0, length as i128) as usize,
+        }
+    };
+    let fewer = fewer_triples(&triples).into_iter();
+    let mut simpler: Vec<Call> = fewer.map(|fewer| call(&fewer, rest, spare)).collect();
+    if !rest.is_empty() {
+        simpler.push(call(&triples, &[], spare));
+    }
+    if spare > 0 {
+        simpler.push(call(&triples, rest, 0));
+    }
+    let others = simpler_triples(&triples).into_iter();
+    simpler.extend(others.map(|others| call(&others, rest, spare)));
+    simpler
+}
+
+/// One half of the triples, and all but one of them.
+fn fewer_triples(triples: &[Triple]) -> Vec<Vec<Triple>> {
+    let (first, second) = triples.split_at(triples.len() / 2);
+    let mut fewer = Vec::new();
+    if !first.is_empty() {
+        fewer.extend([first.to_vec(), second.to_vec()]);
+    }
+    for at in 0..triples.len() {
+        fewer.push([&triples[..at], &triples[at + 1..]].concat());
+    }
+    fewer
+}
+
+/// As many triples, one of them shorter or from the start on.
+fn simpler_triples(triples: &[Triple]) -> Vec<Vec<Triple>> {
+    let mut simpler = Vec::new();
+    for (at, &triple) in triples.iter().enumerate() {
+        let mut with = |triple: Triple| {
+            let mut others = triples.to_vec();
+            others[at] = triple;
+            simpler.push(others);
+        };
+        for length in shorter(triple.length) {
+            with(Triple { length, ..triple });
+        }
+        if triple.offset > 0 {
+            let offset = 0;
+            with(Triple { offset, ..triple });
+        }
     }
     simpler
 }
@@ -261,6 +327,15 @@ fn describe_call(call: &Call) -> String {
             "call: write object {object} offset {offset}, {} bytes, {time:?}\n",
             bytes.len()
         ),
+        Call::ReadMany { list, length } => {
+            let triples: Vec<(u64, u64, u64)> = Triple::all(list)
+                .map(|triple| (triple.object, triple.offset, triple.length))
+                .collect();
+            let rest = list.len() % TRIPLE_BYTES;
+            format!(
+                "call: read_many (object, offset, length) {triples:?} and {rest} bytes, into {length} bytes\n"
+            )
+        }
         call => format!("call: {call:?}\n"),
     }
 }

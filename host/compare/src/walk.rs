@@ -6,6 +6,7 @@ use random::Rng;
 
 use crate::damage::{damage, split_all};
 use crate::generate::{History, Step, crowd};
+use crate::lists::Lists;
 use crate::rough::roughen;
 
 /// A history and the store that it runs on.
@@ -14,6 +15,7 @@ pub struct Walk {
     pub store: Store,
     /// Events and calls so far.
     pub step: usize,
+    lists: Option<Lists>,
     rough: Option<Rough>,
 }
 
@@ -78,20 +80,38 @@ impl Change {
     }
 }
 
+/// The store that the next call is made for, which passes refusals 1 and 2,
+/// and for how many calls a changed one still stands in its place.
+fn aimed<'a>(rough: &'a mut Option<Rough>, store: &'a Store) -> (&'a Store, Option<&'a mut u64>) {
+    match rough.as_mut().and_then(|rough| rough.undo.as_mut()) {
+        Some((store, left)) => (store, Some(left)),
+        None => (store, None),
+    }
+}
+
 impl Walk {
+    /// The history alone, as it is recorded: without many reads in one call.
     pub fn new(history: History) -> Self {
         Self {
             store: history.blank(),
             history,
             step: 0,
+            lists: None,
             rough: None,
         }
     }
 
-    /// History `number` of `seed` with bytes and lengths changed at random on
-    /// the way.
-    pub fn rough(seed: u64, number: u64) -> Self {
+    /// History `number` of `seed` with many reads in one call in between, which
+    /// leave its own calls as they are.
+    pub fn with_lists(seed: u64, number: u64) -> Self {
         let mut walk = Self::new(History::new(seed, number));
+        walk.lists = Some(Lists::new(seed, number));
+        walk
+    }
+
+    /// The same with bytes and lengths changed at random on the way.
+    pub fn rough(seed: u64, number: u64) -> Self {
+        let mut walk = Self::with_lists(seed, number);
         walk.rough = Some(Rough {
             rng: Rng::new(!seed ^ number << 20),
             undo: None,
@@ -107,15 +127,11 @@ impl Walk {
             self.step += 1;
             return Some(Event::Changed(change));
         }
-        if let Some(call) = self.short_call() {
+        if let Some(call) = self.short_call().or_else(|| self.many_reads()) {
             self.step += 1;
             return Some(Event::Call(call));
         }
-        let undo = self.rough.as_mut().and_then(|rough| rough.undo.as_mut());
-        let (store, left) = match undo {
-            Some((store, left)) => (&*store, Some(left)),
-            None => (&self.store, None),
-        };
+        let (store, left) = aimed(&mut self.rough, &self.store);
         let step = self.history.next(store)?;
         self.step += 1;
         if let Step::Call(call) = step {
@@ -146,6 +162,9 @@ impl Walk {
     pub fn call(&mut self) -> Option<Call> {
         loop {
             self.step += 1;
+            if let Some(call) = self.many_reads() {
+                return Some(call);
+            }
             if let Step::Call(call) = self.history.next(&self.store)? {
                 return Some(call);
             }
@@ -214,6 +233,17 @@ impl Walk {
             2 => Call::Settle,
             _ => Call::Fill,
         })
+    }
+
+    /// Many reads in one call, now and then, where the walk has them.
+    fn many_reads(&mut self) -> Option<Call> {
+        let lists = self.lists.as_mut()?;
+        let (store, left) = aimed(&mut self.rough, &self.store);
+        let call = lists.next(&self.history, store)?;
+        if let Some(left) = left {
+            *left -= 1;
+        }
+        Some(call)
     }
 
     /// Take the standing change back, if there is one.

@@ -97,6 +97,8 @@ fn what_a_library_does_wrong_is_told() {
         ("a full last block not kept", 60),
         ("hollow: a read that always gives zeros", 12),
         ("used map that does not fit", 1),
+        ("a piece laid behind the bytes handed out before it", 20),
+        ("a unit counted again where another comes between", 20),
         ("image of no block", 0),
     ] {
         let wrong = library(Wrong::named(name).expect("listed"));
@@ -165,14 +167,15 @@ fn fault(broken: &Alone, wrong: Option<Wrong>, call: &Call) -> Option<String> {
     }
 }
 
-/// A library of the first four calls: the comparison goes on with the model's
-/// store where it has no call, and still finds what is wrong in the others.
+/// A library of four calls: the comparison goes on with the model's store where
+/// it has no call, and still finds what is wrong in the others.
 #[test]
 fn a_library_without_some_calls_is_judged_on_the_others() {
     struct Four(Wrong);
     impl Library for Four {
         fn supports(&self, call: &Call) -> bool {
-            !call.compared()
+            let reads = matches!(call, Call::ReadMany { .. });
+            !call.compared() && !reads
         }
         fn lent(&self, _: Lent<'_>, _: Request<'_>) -> Told {
             unreachable!("it is lent whole stores")
@@ -189,7 +192,7 @@ fn a_library_without_some_calls_is_judged_on_the_others() {
     assert!(
         gate.answers
             .keys()
-            .all(|(name, _)| !["write", "grow", "read"].contains(name))
+            .all(|(name, _)| !["write", "grow", "read", "read_many"].contains(name))
     );
     for name in [
         "settle keeps the used bits",

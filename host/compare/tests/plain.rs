@@ -1,26 +1,34 @@
 //! Document 01's demand 3 on the model, and the store of its program `layout`.
 
-use compare::library::{Lent, Library, Request, Told};
+use std::panic::catch_unwind;
+
+use compare::library::Whole;
 use compare::plain::demand_3;
-use model::{Answer, Call, Store, Volume};
-
-/// The model in a library's place.
-struct Model;
-
-impl Library for Model {
-    fn lent(&self, _: Lent<'_>, _: Request<'_>) -> Told {
-        unreachable!("it works on a store as it is")
-    }
-
-    fn run(&self, store: &mut Store, call: &Call) -> Answer {
-        model::run(store, call)
-    }
-}
+use model::{Call, Store, Volume};
+use wrong::Wrong;
 
 #[test]
 fn reads_give_the_plain_arrays_bytes_and_blocks_add_up() {
-    let calls: u64 = (0..200).map(|number| demand_3(&Model, 11, number)).sum();
+    let calls = |number| demand_3(&Whole(model::run), 11, number);
+    let calls: u64 = (0..200).map(calls).sum();
     assert!(calls > 2_000, "{calls} calls");
+}
+
+/// What is wrong with many reads in one call shows against plain arrays, too.
+#[test]
+fn many_reads_that_are_wrong_are_found() {
+    for name in [
+        "a piece laid behind the bytes handed out before it",
+        "a piece's unread rest cleared",
+        "a read that equals an earlier one leaves its piece",
+        "a unit counted for each read",
+        "a unit of a hole not counted",
+    ] {
+        let wrong = Wrong::named(name).expect("listed");
+        let library = move |store: &mut Store, call: &Call| wrong.run(store, call);
+        let found = |number| catch_unwind(|| demand_3(&Whole(library), 11, number)).is_err();
+        assert!((0..200).any(found), "{name}");
+    }
 }
 
 #[test]

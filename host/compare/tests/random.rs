@@ -3,6 +3,7 @@
 
 use std::time::Duration;
 
+use compare::edges::edges;
 use compare::run::{Failure, Judged, Tally, Verdict, compare_history, judge};
 use compare::shrink::{describe, minimise};
 use model::{Call, Store};
@@ -78,6 +79,26 @@ fn the_model_agrees_with_itself() {
     for number in 0..300 {
         let result = compare_history(3, number, &in_its_place(Wrong::NONE), &mut tally);
         assert!(result.is_ok(), "{:?}", result.err().map(|f| f.reason));
+    }
+}
+
+/// Many reads in one call at the edges of their rules, against the single reads
+/// of the model, of the Rust where it is there, and of a model whose reads are
+/// wrong.
+#[test]
+fn many_reads_are_single_reads() {
+    let parting = |other: &dyn Fn(&mut Store, &Call) -> OracleAnswer| {
+        let mut edges = edges();
+        edges.retain(|edge| matches!(edge.call, Call::ReadMany { .. }));
+        assert!(edges.len() > 400, "{} calls", edges.len());
+        edges.retain(|edge| parts(&judge(&edge.store, &edge.call, other)));
+        edges.len()
+    };
+    assert_eq!(parting(&in_its_place(Wrong::NONE)), 0);
+    let wrong = Wrong::named("a read clears the rest of its buffer").expect("listed");
+    assert!(parting(&in_its_place(wrong)) > 0);
+    if !oracle::skipped("many reads in one call by single reads of the Rust") {
+        assert_eq!(parting(&oracle::run), 0);
     }
 }
 

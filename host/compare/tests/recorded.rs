@@ -5,8 +5,10 @@ use std::collections::BTreeSet;
 use std::fs;
 use std::path::PathBuf;
 
+use compare::broken::sound_store;
 use compare::differences::Difference;
-use compare::recorded::{Case, Reader, Source};
+use compare::lists::read_many;
+use compare::recorded::{Case, Reader, Source, Writer};
 use compare::run::{Verdict, judge};
 use compare::sample;
 use compare::shrink::describe;
@@ -88,6 +90,36 @@ fn the_sample_is_small_and_shows_every_number() {
             assert!(shown.contains(&(name, *number)), "{name} {number}");
         }
     }
+}
+
+/// None are recorded, since the Rust does not have the call; a failing one is
+/// written, to be run again.
+#[test]
+fn many_reads_are_written_and_read_again() {
+    let store = sound_store();
+    let cases = [
+        read_many(&[(7, 8_990, 20), (9, 0, 10)], 40),
+        read_many(&[(7, 0, 10), (8, 0, 10)], 20),
+        read_many(&[(7, 0, u64::MAX)], 0),
+        read_many(&[], 3),
+    ]
+    .map(|call| Case {
+        before: store.clone(),
+        source: Source::Document,
+        answer: model::run(&mut store.clone(), &call),
+        after: store.clone(),
+        call,
+    });
+    assert_eq!(
+        cases.each_ref().map(|case| case.answer.number),
+        [0, 3, 17, 0]
+    );
+    let mut writer = Writer::default();
+    for case in &cases {
+        writer.case(case);
+    }
+    let again: Vec<Case> = Reader::new(&writer.finish()).collect();
+    assert_eq!(again, cases);
 }
 
 /// Only the small stores: those of groups.bin would take a minute.

@@ -38,6 +38,12 @@ pub enum Call {
         offset: u64,
         length: usize,
     },
+    /// The reads of a list into one buffer of `length` bytes, each
+    /// [`READ_FILL`].
+    ReadMany {
+        list: Vec<u8>,
+        length: usize,
+    },
     Settle,
     Fill,
 }
@@ -50,6 +56,7 @@ impl Call {
             Self::Write { .. } => "write",
             Self::Grow { .. } => "grow",
             Self::Read { .. } => "read",
+            Self::ReadMany { .. } => "read_many",
             Self::Settle => "settle",
             Self::Fill => "fill",
         }
@@ -66,7 +73,9 @@ impl Call {
     /// The lent output buffer as it is before the call.
     pub fn blank_output(&self) -> Vec<u8> {
         match self {
-            Self::Read { length, .. } => vec![READ_FILL; *length],
+            Self::Read { length, .. } | Self::ReadMany { length, .. } => {
+                vec![READ_FILL; *length]
+            }
             _ => Vec::new(),
         }
     }

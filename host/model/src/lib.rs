@@ -1,8 +1,9 @@
-//! Document 01 as plain executable rules over the bytes of a store.
+//! Document 01, and what document 02 adds to it, as plain executable rules over
+//! the bytes of a store.
 //!
-//! It is written from document 01 and not from the published Rust, so that
+//! It is written from the documents and not from the published Rust, so that
 //! running both on the same calls shows where the two part. It favours
-//! sentences one can find in the document over speed.
+//! sentences one can find in the documents over speed.
 
 pub mod call;
 pub mod crc32c;
@@ -11,7 +12,7 @@ pub mod rules;
 pub mod store;
 
 pub use call::{Answer, Call, READ_FILL, Time};
-pub use records::{Card, Extent, Group, Volume};
+pub use records::{Card, Extent, Group, Triple, Volume};
 pub use rules::{passes_refusals_1_and_2, run};
 pub use store::Store;
 
@@ -24,6 +25,8 @@ pub const GROUP_BLOCKS: u64 = 16_384;
 pub const MAX_BLOCKS: u64 = 65_536;
 pub const MAX_PLACES: usize = 1_048_575;
 pub const MAX_TRANSFER_BYTES: usize = 1_048_576;
+/// The most triples of a list.
+pub const MAX_TRIPLES: usize = 64;
 /// 2^63 - 1: the largest file size and the largest number of seconds.
 pub const MAX_SIZE: u64 = 9_223_372_036_854_775_807;
 /// 2^35 - 1: the largest count of allocated blocks on a card.

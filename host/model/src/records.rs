@@ -1,5 +1,5 @@
 //! The records of document 01: head, card, extent, group and block maps, and
-//! the volume that they make up.
+//! the volume that they make up; and the triples of document 02's lists.
 
 use crate::store::Store;
 use crate::{BLOCK_BYTES, UNITS_PER_GROUP};
@@ -9,6 +9,7 @@ pub const CARD_BYTES: usize = 32;
 pub const EXTENT_BYTES: usize = 33;
 pub const GROUP_BYTES: usize = 1_073;
 pub const KEY_BYTES: usize = 17;
+pub const TRIPLE_BYTES: usize = 24;
 
 /// The `width` bits at `at`, the most significant first.
 pub fn bits(bytes: &[u8], at: usize, width: usize) -> u128 {
@@ -204,6 +205,47 @@ impl Group {
                 bytes[49 + n * 4..53 + n * 4].copy_from_slice(&value.to_le_bytes());
             }
         }
+    }
+}
+
+fn le64(bytes: &[u8]) -> u64 {
+    u64::from_le_bytes(bytes.try_into().expect("8 bytes"))
+}
+
+/// One read of a list: three "64-bit numbers (here and later 8 bytes each,
+/// little-endian)".
+#[derive(Clone, Copy, Debug, PartialEq, Eq, PartialOrd, Ord)]
+pub struct Triple {
+    pub object: u64,
+    pub offset: u64,
+    pub length: u64,
+}
+
+impl Triple {
+    pub fn decode(bytes: &[u8]) -> Self {
+        Self {
+            object: le64(&bytes[..8]),
+            offset: le64(&bytes[8..16]),
+            length: le64(&bytes[16..24]),
+        }
+    }
+
+    pub fn encode(&self) -> [u8; TRIPLE_BYTES] {
+        let mut bytes = [0; TRIPLE_BYTES];
+        bytes[..8].copy_from_slice(&self.object.to_le_bytes());
+        bytes[8..16].copy_from_slice(&self.offset.to_le_bytes());
+        bytes[16..].copy_from_slice(&self.length.to_le_bytes());
+        bytes
+    }
+
+    /// The whole triples of a list; bytes after the last one are left out.
+    pub fn all(list: &[u8]) -> impl Iterator<Item = Self> {
+        list.chunks_exact(TRIPLE_BYTES).map(Self::decode)
+    }
+
+    /// The list of these triples.
+    pub fn list(triples: &[Self]) -> Vec<u8> {
+        triples.iter().flat_map(Self::encode).collect()
     }
 }
 

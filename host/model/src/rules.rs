@@ -1,5 +1,6 @@
 //! The refusals and the rules of a call, in the order of document 01. The
-//! quoted sentences are the document's.
+//! quoted sentences are the document's, or document 02's where a comment names
+//! its request.
 
 use std::collections::BTreeSet;
 
@@ -7,12 +8,12 @@ use crate::call::{Answer, Call, Time};
 use crate::crc32c::unit_checksum;
 use crate::records::{
     CARD_BYTES, Card, EXTENT_BYTES, Extent, GROUP_BYTES, Group, HEAD_BYTES, Head, KEY_BYTES,
-    Volume, bits, map_bit,
+    TRIPLE_BYTES, Triple, Volume, bits, map_bit,
 };
 use crate::store::{Store, map_bytes};
 use crate::{
     BLOCK_BYTES, BLOCKS_PER_UNIT, GROUP_BLOCKS, MAX_ALLOCATED, MAX_BLOCKS, MAX_PLACES, MAX_SIZE,
-    MAX_TRANSFER_BYTES, UNIT_BYTES, UNITS_PER_GROUP,
+    MAX_TRANSFER_BYTES, MAX_TRIPLES, UNIT_BYTES, UNITS_PER_GROUP,
 };
 
 /// A refusal's number.
@@ -57,6 +58,7 @@ fn answer(store: &mut Store, call: &Call, output: &mut [u8]) -> Result<u64, Refu
         } => write(store, *object, *offset, bytes, *time),
         Call::Grow { object, size, time } => grow(store, *object, *size, *time),
         Call::Read { object, offset, .. } => read(store, *object, *offset, output),
+        Call::ReadMany { list, .. } => read_many(store, list, output),
         Call::Settle => Ok(settle(store)),
         Call::Fill => Ok(fill(store)),
     }
@@ -324,6 +326,48 @@ fn read(store: &Store, object: u64, offset: u64, output: &mut [u8]) -> Result<u6
     let count = length as usize;
     output[..count].copy_from_slice(&bytes[from..from + count]);
     Ok(length)
+}
+
+/// Document 02, W-201: triples (object, offset, length) "and one output buffer
+/// whose pieces lie one after another in list order."
+fn read_many(store: &Store, list: &[u8], output: &mut [u8]) -> Result<u64, Refusal> {
+    refuse_if(reads_are_bad(list, output.len()), 17)?;
+    // Beside the output, of which a refused call changes no byte.
+    let mut pieces = output.to_vec();
+    let mut touched = BTreeSet::new();
+    let mut start = 0;
+    for triple in Triple::all(list) {
+        // By refusal 17 all pieces lie within the output.
+        let end = start + triple.length as usize;
+        // "Each piece is what a single read into a buffer of that length
+        // gives, and its unread rest is unchanged. The first read in list
+        // order that would be refused refuses the whole call."
+        let count = read(store, triple.object, triple.offset, &mut pieces[start..end])?;
+        for unit in units_of(triple.offset, count) {
+            touched.insert((triple.object, unit));
+        }
+        start = end;
+    }
+    output.copy_from_slice(&pieces);
+    // "The answer is the number of different pairs of object and unit that
+    // the reads touch".
+    Ok(touched.len() as u64)
+}
+
+/// Refusal 17: "when the list is not whole triples, has more than 64, or its
+/// lengths exceed the output". The lengths are added as numbers without bound.
+fn reads_are_bad(list: &[u8], output: usize) -> bool {
+    let lengths = Triple::all(list).map(|triple| u128::from(triple.length));
+    !list.len().is_multiple_of(TRIPLE_BYTES)
+        || list.len() / TRIPLE_BYTES > MAX_TRIPLES
+        || lengths.sum::<u128>() > output as u128
+}
+
+/// The units that a read touches, of which it handed out so many bytes: "a byte
+/// handed out lies there, in a hole or not".
+fn units_of(offset: u64, count: u64) -> impl Iterator<Item = u64> {
+    let units = (count > 0).then(|| offset / UNIT_BYTES..=(offset + count - 1) / UNIT_BYTES);
+    units.into_iter().flatten()
 }
 
 /// "settle, which clears both bits of every retired block and answers how

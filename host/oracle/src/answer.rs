@@ -29,7 +29,8 @@ pub enum Outcome {
     Shrinks,
     /// Arithmetic that overflowed, or another panic.
     Panicked(String),
-    /// Enter, fresh, settle and fill have no counterpart.
+    /// Enter, fresh, settle, fill and many reads in one call have no
+    /// counterpart.
     NoCounterpart,
     /// The published source is not there.
     Absent,

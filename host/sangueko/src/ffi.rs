@@ -150,6 +150,27 @@ unsafe extern "C" {
         out: *mut u8,
         out_len: usize,
     ) -> Answer;
+
+    fn sangueko_read_many(
+        image: *const u8,
+        image_len: usize,
+        head: *const u8,
+        head_len: usize,
+        cards: *const u8,
+        cards_len: usize,
+        extents: *const u8,
+        extents_len: usize,
+        groups: *const u8,
+        groups_len: usize,
+        used: *const u8,
+        used_len: usize,
+        retired: *const u8,
+        retired_len: usize,
+        list: *const u8,
+        list_len: usize,
+        out: *mut u8,
+        out_len: usize,
+    ) -> Answer;
 }
 
 // SAFETY of each: the pointers and lengths are those of slices that live
@@ -341,8 +362,33 @@ pub fn read(store: &Store<'_>, object: u64, offset: u64, out: &mut [u8]) -> Resu
     })
 }
 
+pub fn read_many(store: &Store<'_>, list: &[u8], out: &mut [u8]) -> Result<u64, Refusal> {
+    result(unsafe {
+        sangueko_read_many(
+            store.image.as_ptr(),
+            store.image.len(),
+            store.head.as_ptr(),
+            store.head.len(),
+            store.cards.as_ptr(),
+            store.cards.len(),
+            store.extents.as_ptr(),
+            store.extents.len(),
+            store.groups.as_ptr(),
+            store.groups.len(),
+            store.used.as_ptr(),
+            store.used.len(),
+            store.retired.as_ptr(),
+            store.retired.len(),
+            list.as_ptr(),
+            list.len(),
+            out.as_mut_ptr(),
+            out.len(),
+        )
+    })
+}
+
 /// An answer as a result. A refused call has count 0, and its number is one
-/// of the sixteen: both are proved of the archive, and a breach is a panic.
+/// of the seventeen: both are proved of the archive, and a breach is a panic.
 fn result(answer: Answer) -> Result<u64, Refusal> {
     if answer.number == 0 {
         return Ok(answer.count);

@@ -33,10 +33,12 @@
 
 mod buffers;
 mod ffi;
+mod range;
 mod refusal;
 mod store;
 
 pub use buffers::{Places, StoreBuf};
+pub use range::Range;
 pub use refusal::Refusal;
 pub use store::Store;
 
@@ -56,8 +58,13 @@ pub const UUID_BYTES: usize = 16;
 pub const MOST_BLOCKS: usize = 65_536;
 /// Places of a book at most.
 pub const MOST_PLACES: usize = 1_048_575;
-/// Bytes that one write or read takes at most.
+/// Bytes that one write or read takes at most; of many reads in one call, each
+/// of them.
 pub const MOST_TRANSFER: usize = 1_048_576;
+/// Bytes of a [`Range`] in a list.
+pub const RANGE_BYTES: usize = 24;
+/// Ranges of a list at most.
+pub const MOST_RANGES: usize = 64;
 /// Stack that a call takes at most.
 pub const STACK_BYTES: usize = 262_144;
 

@@ -3,9 +3,9 @@
 use std::error::Error;
 use std::fmt;
 
-/// The cases in which a call is refused, with document 01's numbers. A call
-/// tries them in the order of their numbers and gives the first that applies;
-/// 9 to 14 are tried unit by unit.
+/// The cases in which a call is refused, with the numbers of documents 01 and
+/// 02. A call tries them in the order of their numbers, but 17 right behind 2,
+/// and gives the first that applies; 9 to 14 are tried unit by unit.
 ///
 /// ```
 /// use sangueko::Refusal;
@@ -33,11 +33,12 @@ pub enum Refusal {
     CountDisagrees = 14,
     NoGroupPlace = 15,
     NoExtentPlace = 16,
+    BadReads = 17,
 }
 
 impl Refusal {
     /// Every refusal, in the order of their numbers.
-    pub const ALL: [Self; 16] = [
+    pub const ALL: [Self; 17] = [
         Self::WrongLength,
         Self::BrokenRule,
         Self::NoCard,
@@ -54,9 +55,10 @@ impl Refusal {
         Self::CountDisagrees,
         Self::NoGroupPlace,
         Self::NoExtentPlace,
+        Self::BadReads,
     ];
 
-    /// Document 01's number.
+    /// The number in document 01 or 02.
     pub const fn number(self) -> u32 {
         self as u32
     }
@@ -124,6 +126,11 @@ impl fmt::Display for Refusal {
             }
             Self::NoExtentPlace => {
                 "the store has too few places for extents: make one with more of them"
+            }
+            Self::BadReads => {
+                "the list of reads is not whole ranges, has too many, or asks for more bytes than \
+                 the output has: give at most 64 ranges of 24 bytes, and an output as long as \
+                 their lengths together"
             }
         })
     }

@@ -1,6 +1,7 @@
 //! The calls on a store in lent buffers.
 
-use crate::{Refusal, ffi};
+use crate::range::with_list;
+use crate::{Range, Refusal, ffi};
 
 /// The seven buffers of a store, lent. They may hold anything: a call that
 /// cannot work on them is refused.
@@ -202,6 +203,72 @@ impl Store<'_> {
     /// ```
     pub fn read(&self, object: u64, offset: u64, out: &mut [u8]) -> Result<u64, Refusal> {
         ffi::read(self, object, offset, out)
+    }
+
+    /// Makes up to [`MOST_RANGES`](crate::MOST_RANGES) reads in one call, of one
+    /// file or of several. `out` is cut into pieces that lie one after another
+    /// in the order of `ranges`, each as long as its range, and a piece becomes
+    /// what [`read`](Store::read) gives in a buffer of its length. Where the file
+    /// ends before the range does, or it has more than
+    /// [`MOST_TRANSFER`](crate::MOST_TRANSFER) bytes, the rest of the piece stays
+    /// as it is, and so does what lies behind the last piece.
+    ///
+    /// Answers the number of different units, of 64 KiB and each of one file, in
+    /// which bytes of the answer lie, never written ones too. The store is tested
+    /// once for all of the reads and each unit once, before the first byte is
+    /// handed out. Nothing is allocated.
+    ///
+    /// # Errors
+    ///
+    /// In this order: [`WrongLength`](Refusal::WrongLength),
+    /// [`BrokenRule`](Refusal::BrokenRule), [`BadReads`](Refusal::BadReads);
+    /// then, range by range, what its read is refused by:
+    /// [`NoCard`](Refusal::NoCard), for an empty range too, and
+    /// [`NoChecksum`](Refusal::NoChecksum) and the others that speak of a unit.
+    ///
+    /// ```
+    /// # use sangueko::{MOST_RANGES, Places, Range, Refusal, StoreBuf};
+    /// # let mut buffers = StoreBuf::new(8, Places { cards: 1, extents: 8, groups: 1 })?;
+    /// # let mut store = buffers.lend();
+    /// # store.fresh(&[0; 16], 1)?;
+    /// store.enter(7, 1_700_000_000, 0)?;
+    /// store.write(7, 0, b"many reads", 1_700_000_001, 0)?;
+    /// let range = |offset, length| Range { object: 7, offset, length };
+    /// let mut out = *b"..........";
+    /// assert_eq!(store.read_many(&[range(5, 3), range(0, 2), range(8, 4)], &mut out), Ok(1));
+    /// assert_eq!(&out, b"reamads..."); // the file ends within the last range
+    ///
+    /// let missing = Range { object: 8, ..range(0, 0) };
+    /// assert_eq!(store.read_many(&[range(0, 4), missing], &mut out), Err(Refusal::NoCard));
+    /// assert_eq!(store.read_many(&[range(0, 11)], &mut out), Err(Refusal::BadReads));
+    /// assert_eq!(store.read_many(&[range(0, 0); MOST_RANGES + 1], &mut out), Err(Refusal::BadReads));
+    /// assert_eq!(&out, b"reamads...");
+    /// # Ok::<(), Refusal>(())
+    /// ```
+    pub fn read_many(&self, ranges: &[Range], out: &mut [u8]) -> Result<u64, Refusal> {
+        with_list(ranges, |list| self.read_many_bytes(list, out))
+    }
+
+    /// [`read_many`](Store::read_many) of a list that is bytes already: of each
+    /// range its [`to_bytes`](Range::to_bytes), one behind the other. Any bytes
+    /// may be given: the library decides whether they are a list.
+    ///
+    /// # Errors
+    ///
+    /// Those of `read_many`.
+    ///
+    /// ```
+    /// # use sangueko::{Places, Refusal, StoreBuf};
+    /// # let mut buffers = StoreBuf::new(8, Places { cards: 1, extents: 8, groups: 1 })?;
+    /// # let mut store = buffers.lend();
+    /// # store.fresh(&[0; 16], 1)?;
+    /// assert_eq!(store.read_many_bytes(&[], &mut []), Ok(0));
+    /// assert_eq!(store.read_many_bytes(&[0; 23], &mut []), Err(Refusal::BadReads));
+    /// assert_eq!(store.read_many_bytes(&[0; 24], &mut []), Err(Refusal::NoCard)); // of file 0
+    /// # Ok::<(), Refusal>(())
+    /// ```
+    pub fn read_many_bytes(&self, list: &[u8], out: &mut [u8]) -> Result<u64, Refusal> {
+        ffi::read_many(self, list, out)
     }
 
     /// Lets the retired blocks go, which files have given up: they are free

@@ -9,6 +9,7 @@ use archive::Archive;
 use compare::alone::{TIME, calls, fresh, sounds};
 use compare::gate::judge;
 use compare::library::Library;
+use compare::lists::read_many;
 use model::{Answer, Call};
 
 /// Without guard pages, then with them on either side of every buffer.
@@ -18,7 +19,8 @@ fn the_library_answers_as_the_model() {
     let report = judge(&Archive).unwrap_or_else(|parted| panic!("{}", parted.report()));
     print!("{report}");
     for (name, numbers) in NUMBERS {
-        let asked = report.lines().find(|line| line.trim().starts_with(name));
+        let of_call = |line: &&str| line.split_whitespace().next() == Some(name);
+        let asked = report.lines().find(of_call);
         let asked = asked.expect("a line for each call").split_whitespace();
         let met: Vec<u32> = asked
             .filter_map(|word| word.strip_suffix(':')?.parse().ok())
@@ -29,12 +31,13 @@ fn the_library_answers_as_the_model() {
 
 /// Every number that a call gives, all of which the gate meets. A grow does not
 /// give 15: the tail unit that it rewrites has its group.
-const NUMBERS: [(&str, &[u32]); 7] = [
+const NUMBERS: [(&str, &[u32]); 8] = [
     ("fresh", &[0, 1]),
     ("enter", &[0, 1, 2, 4, 7, 8]),
     ("write", &[0, 1, 2, 3, 5, 7, 9, 10, 11, 12, 13, 14, 15, 16]),
     ("grow", &[0, 1, 2, 3, 5, 6, 7, 9, 10, 11, 12, 13, 14, 16]),
     ("read", &[0, 1, 2, 3, 9, 10, 11, 12]),
+    ("read_many", &[0, 1, 2, 3, 9, 10, 11, 12, 17]),
     ("settle", &[0, 1, 2]),
     ("fill", &[0, 1, 2]),
 ];
@@ -94,10 +97,40 @@ fn each_call_runs_on_256_kib_of_stack() {
             offset: 77,
             length: 1 << 20,
         },
+        most_reads(),
     ] {
         on_little_stack(&store, &call);
         assert_eq!(model::run(&mut store, &call).number, 0, "{}", call.name());
     }
+}
+
+/// As many units as one list can touch: 64 times 17 different ones, of file 7,
+/// whose first are in blocks.
+fn most_reads() -> Call {
+    let reads: Vec<(u64, u64, u64)> = (0..64)
+        .map(|n| (7, 65_535 + n * (17 << 16), 1 << 20))
+        .collect();
+    read_many(&reads, 64 << 20)
+}
+
+#[test]
+fn the_most_units_of_a_list_are_counted() {
+    let mut store = model::Store::blank(2, 1, 1, 1);
+    let grown = Call::Grow {
+        object: 7,
+        size: 1 << 40,
+        time: TIME,
+    };
+    let entered = Call::Enter {
+        object: 7,
+        time: TIME,
+    };
+    for call in [fresh(16, 1), entered, grown] {
+        assert_eq!(Archive.run(&mut store, &call).number, 0, "{}", call.name());
+    }
+    let told = Archive.run(&mut store, &most_reads());
+    assert_eq!((told.number, told.count), (0, 64 * 17));
+    assert!(told.output.iter().all(|&byte| byte == 0));
 }
 
 #[test]

@@ -142,7 +142,7 @@ impl Given {
     }
 
     /// The value that was given last.
-    fn value(&self, name: &str) -> Option<&OsStr> {
+    pub fn value(&self, name: &str) -> Option<&OsStr> {
         let mut options = self.options.iter().rev();
         options
             .find(|(given, _)| *given == name)
@@ -201,7 +201,7 @@ impl Given {
 }
 
 /// Decimal; underscores and commas may stand between the digits.
-fn number(value: &OsStr, what: &str) -> Result<u64, Failure> {
+pub fn number(value: &OsStr, what: &str) -> Result<u64, Failure> {
     let text = value.to_string_lossy();
     let digits: String = text.chars().filter(|c| !matches!(c, '_' | ',')).collect();
     let plain = !digits.is_empty() && digits.chars().all(|c| c.is_ascii_digit());

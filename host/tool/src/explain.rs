@@ -78,13 +78,19 @@ fn advice(refusal: Refusal) -> (&'static str, &'static str) {
             "The files lie in too many pieces for the book. Settle, then write files again in one go, or make a store with more \
              --extents; as many as there are blocks are always enough.",
         ),
+        Refusal::BadReads => (
+            "no command, since the tool makes its lists itself; programs that call the library",
+            "Cut a longer list into several calls of 64 reads, and lend an output that is at least as long as the \
+             lengths together. `sangueko read FOLDER OBJECT --ranges-from FILE` does that for any number of ranges.",
+        ),
     }
 }
 
 pub fn explain(number: u32) -> Result<String, Failure> {
     let refusal = Refusal::of(number).ok_or_else(|| {
         Failure::Usage(format!(
-            "there is no refusal {number}: they have the numbers 1 to 16"
+            "there is no refusal {number}: they have the numbers 1 to {}",
+            Refusal::ALL.len()
         ))
     })?;
     let (commands, advice) = advice(refusal);

@@ -8,7 +8,7 @@ sangueko: stores of files in folders, over the proved library
   sangueko new FOLDER                    make a store
   sangueko enter FOLDER OBJECT           add a file, which has a number and no name
   sangueko write FOLDER OBJECT [FILE]    write a file or standard input into it
-  sangueko read FOLDER OBJECT            give its bytes
+  sangueko read FOLDER OBJECT            give its bytes, or those of many ranges
   sangueko grow FOLDER OBJECT SIZE       make it longer
   sangueko settle FOLDER                 let retired blocks go
   sangueko fill FOLDER                   tell how full the store is
@@ -21,7 +21,7 @@ sangueko: stores of files in folders, over the proved library
 cards, extents, groups, used and retired, the bytes of document 01's buffers; docs/TOOL.md
 says more.
 
-Exit codes: 0 done; 1 to 16 the refusal of that number, and nothing was changed by the
+Exit codes: 0 done; 1 to 17 the refusal of that number, and nothing was changed by the
 refused call; 64 the command line is wrong; 66 the folder is not a store, or already one;
 74 reading or writing failed; 75 another process has the folder (--no-wait).
 Results go to standard output, errors to standard error.
@@ -78,15 +78,22 @@ one of them is refused, those before it stay, and the message says how many byte
     Spec {
         name: "read",
         words: &["FOLDER", "OBJECT"],
-        options: &["--at", "--length", "--out"],
+        options: &["--at", "--length", "--ranges", "--ranges-from", "--out"],
         switches: &[NO_WAIT],
         help: "\
-Gives the bytes of the file OBJECT. Every unit is tested before its bytes are given out.
+Gives the bytes of the file OBJECT: all, a part, or those of many ranges, one after another as they are listed. Every
+unit is tested before its bytes are given out.
 
-  --at OFFSET    the first byte (0)
-  --length N     how many at most (all to the end)
-  --out FILE     into FILE, which changes only if all could be read (standard output)
-  --no-wait      do not wait for another process, end with 75
+  --at OFFSET         the first byte (0)
+  --length N          how many at most (all to the end)
+  --ranges LIST       the ranges OFFSET:LENGTH,OFFSET:LENGTH,.. instead; numbers have no commas here
+  --ranges-from FILE  the same from a file, or from standard input for `-`: a line OFFSET LENGTH for each range; empty
+                      lines and lines that begin with # are passed over
+  --out FILE          into FILE, which changes only if all could be read (standard output)
+  --no-wait           do not wait for another process, end with 75
+
+A call of the library makes up to 64 reads, in which a unit is tested once. A range that ends past the file's end gives
+the bytes that there are, and a line on standard error says so.
 ",
     },
     Spec {
@@ -173,7 +180,7 @@ many of those lie in units that were never written. Bin n is bit n mod 8 of byte
         options: &[],
         switches: &[],
         help: "\
-Tells what refusal N, 1 to 16, means and what can be done.
+Tells what refusal N, 1 to 17, means and what can be done.
 ",
     },
 ];

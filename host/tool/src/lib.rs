@@ -21,6 +21,7 @@ mod lock;
 mod make;
 mod picture;
 mod progress;
+mod ranges;
 mod records;
 mod show;
 mod svg;
@@ -34,7 +35,7 @@ use std::fs;
 use std::io::{self, IsTerminal, Write};
 use std::process::ExitCode;
 
-use sangueko::Places;
+use sangueko::{Places, Range};
 
 use crate::args::Given;
 use crate::failure::Failure;
@@ -42,6 +43,7 @@ use crate::folder::Folder;
 use crate::help::{COMMANDS, TOP};
 use crate::json::Json;
 use crate::lock::Wait;
+use crate::ranges::Ranges;
 use crate::records::Records;
 use crate::transfer::{Part, Source, Target};
 use crate::words::{counted, grouped, hex};
@@ -166,23 +168,46 @@ fn write(given: &Given) -> Result<(), Failure> {
 }
 
 fn read(given: &Given) -> Result<(), Failure> {
-    let part = Part {
-        object: given.number(1, "OBJECT")?,
-        offset: given.number_option("--at")?.unwrap_or(0),
-        length: given.number_option("--length")?,
-    };
+    let object = given.number(1, "OBJECT")?;
+    let offset = given.number_option("--at")?.unwrap_or(0);
+    let mut part = Part::new(object, offset, given.number_option("--length")?);
     let target = given
         .path_option("--out")
         .map_or(Target::Standard, Target::File);
+    if let Some(ranges) = ranges::given(given, object)? {
+        return read_ranges(given, object, &ranges, &target);
+    }
     let mut loaded = folder(given)?.load()?;
-    let bytes = transfer::read(&mut loaded, &part, &target)?;
+    let bytes = transfer::read(&mut loaded, &mut part, &target)?;
+    tell_read(&counted(bytes, "byte"), &target)
+}
+
+fn read_ranges(
+    given: &Given,
+    object: u64,
+    ranges: &[Range],
+    target: &Target,
+) -> Result<(), Failure> {
+    let mut loaded = folder(given)?.load()?;
+    let mut asked = Ranges::new(ranges, transfer::size(&loaded, object));
+    let bytes = transfer::read(&mut loaded, &mut asked, target)?;
+    if let Some(short) = asked.short() {
+        let _ = writeln!(io::stderr(), "sangueko: {short}");
+    }
+    let read = format!(
+        "{} of {} in {}",
+        counted(bytes, "byte"),
+        counted(ranges.len(), "range"),
+        counted(asked.calls(), "call")
+    );
+    tell_read(&read, target)
+}
+
+/// Says what went into a file; standard output has nothing but the bytes.
+fn tell_read(read: &str, target: &Target) -> Result<(), Failure> {
     match target {
         Target::Standard => Ok(()),
-        Target::File(path) => print(&format!(
-            "read {} into {}\n",
-            counted(bytes, "byte"),
-            path.display()
-        )),
+        Target::File(path) => print(&format!("read {read} into {}\n", path.display())),
     }
 }
 

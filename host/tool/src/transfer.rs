@@ -16,15 +16,15 @@ use crate::words::grouped;
 
 /// Bytes of a call that starts there: as many as one may take, but up to the end
 /// of a unit. The calls after the first one then start with a unit, and none has
-/// to rewrite what the one before it wrote.
-fn call_bytes(offset: u64) -> usize {
+/// to rewrite what the one before it wrote, or to check a unit again.
+pub fn call_bytes(offset: u64) -> usize {
     MOST_TRANSFER - (offset % UNIT_BYTES) as usize
 }
 
-/// Where a write's bytes come from.
+/// Where a command's input comes from.
 pub struct Source {
     input: Box<dyn Read>,
-    name: PathBuf,
+    pub name: PathBuf,
     length: Option<u64>,
 }
 
@@ -59,6 +59,14 @@ impl Source {
             Failure::on(&doing, &self.name, error)
         })?;
         Ok(next)
+    }
+
+    /// All of it, as text.
+    pub fn text(&mut self) -> Result<String, Failure> {
+        let mut bytes = Vec::new();
+        let read = self.input.read_to_end(&mut bytes);
+        read.map_err(|error| Failure::on("reading", &self.name, error))?;
+        Ok(String::from_utf8_lossy(&bytes).into_owned())
     }
 }
 
@@ -124,11 +132,63 @@ fn write_call(
     })
 }
 
-/// What of a file is asked for.
+/// Bytes of a file that are asked for, a call's worth at a time.
+pub trait Asked {
+    /// How many there will be, for the bar.
+    fn expected(&self, loaded: &Loaded) -> u64;
+
+    /// The next of them, as all that `held` then holds; false where there are no
+    /// more.
+    fn next(&mut self, loaded: &mut Loaded, held: &mut Vec<u8>) -> Result<bool, Failure>;
+}
+
+/// One part of a file, to its end or of some length.
 pub struct Part {
-    pub object: u64,
-    pub offset: u64,
-    pub length: Option<u64>,
+    object: u64,
+    offset: u64,
+    length: Option<u64>,
+    done: u64,
+}
+
+impl Part {
+    pub fn new(object: u64, offset: u64, length: Option<u64>) -> Self {
+        Self {
+            object,
+            offset,
+            length,
+            done: 0,
+        }
+    }
+}
+
+impl Asked for Part {
+    fn expected(&self, loaded: &Loaded) -> u64 {
+        let there = size(loaded, self.object).saturating_sub(self.offset);
+        self.length.map_or(there, |length| length.min(there))
+    }
+
+    fn next(&mut self, loaded: &mut Loaded, held: &mut Vec<u8>) -> Result<bool, Failure> {
+        let at = self.offset.saturating_add(self.done);
+        let left = self.length.map_or(u64::MAX, |length| length - self.done);
+        let bytes = call_bytes(at).min(usize::try_from(left).unwrap_or(usize::MAX));
+        held.resize(bytes, 0);
+        let answer = loaded.store.lend().read(self.object, at, held);
+        let count = answer.map_err(|refusal| loaded.refused(reading(self.object, at), refusal))?;
+        held.truncate(usize::try_from(count).unwrap_or(bytes));
+        self.done += held.len() as u64;
+        Ok(!held.is_empty())
+    }
+}
+
+/// A read as messages name it.
+pub fn reading(object: u64, offset: u64) -> String {
+    format!("read of file {object} at byte {}", grouped(offset))
+}
+
+/// The file's size; 0 where there is no such file, which the library refuses.
+pub fn size(loaded: &Loaded, object: u64) -> u64 {
+    let records = Records::of(&loaded.store);
+    records.card(object).map_or(0, |card| card.size)
 }
 
 /// Where a read's bytes go.
@@ -137,39 +197,39 @@ pub enum Target {
     File(PathBuf),
 }
 
-pub fn read(loaded: &mut Loaded, part: &Part, target: &Target) -> Result<u64, Failure> {
+pub fn read(loaded: &mut Loaded, asked: &mut impl Asked, target: &Target) -> Result<u64, Failure> {
     match target {
         Target::Standard => {
             let mut out = io::stdout().lock();
             let progress = if out.is_terminal() {
                 Progress::hidden()
             } else {
-                Progress::new(Some(expected(loaded, part)))
+                Progress::new(Some(asked.expected(loaded)))
             };
-            let bytes = copy(loaded, part, &mut out, progress, Failure::output)?;
+            let bytes = copy(loaded, asked, &mut out, progress, Failure::output)?;
             out.flush().map_err(Failure::output)?;
             Ok(bytes)
         }
-        Target::File(path) => read_to_file(loaded, part, path),
+        Target::File(path) => read_to_file(loaded, asked, path),
     }
 }
 
 /// A file changes only if all could be read: the bytes go to a file beside it,
 /// which then takes its name. What is no plain file (a device, a pipe) is
 /// written to as it is.
-fn read_to_file(loaded: &mut Loaded, part: &Part, path: &Path) -> Result<u64, Failure> {
+fn read_to_file(loaded: &mut Loaded, asked: &mut impl Asked, path: &Path) -> Result<u64, Failure> {
     let failed = |error| Failure::on("writing", path, error);
-    let progress = Progress::new(Some(expected(loaded, part)));
+    let progress = Progress::new(Some(asked.expected(loaded)));
     let special = fs::metadata(path).is_ok_and(|found| !found.is_file());
     if special {
         let mut out = File::create(path).map_err(failed)?;
-        return copy(loaded, part, &mut out, progress, failed);
+        return copy(loaded, asked, &mut out, progress, failed);
     }
     let mut name = path.file_name().map(OsString::from).unwrap_or_default();
     name.push(".sangueko-part");
     let beside = path.with_file_name(name);
     let mut out = File::create(&beside).map_err(failed)?;
-    let copied = copy(loaded, part, &mut out, progress, failed).and_then(|bytes| {
+    let copied = copy(loaded, asked, &mut out, progress, failed).and_then(|bytes| {
         out.sync_all()
             .and_then(|()| fs::rename(&beside, path))
             .map_err(failed)?;
@@ -181,40 +241,19 @@ fn read_to_file(loaded: &mut Loaded, part: &Part, path: &Path) -> Result<u64, Fa
     copied
 }
 
-/// Bytes that a read will give, for the bar.
-fn expected(loaded: &Loaded, part: &Part) -> u64 {
-    let records = Records::of(&loaded.store);
-    let size = records.card(part.object).map_or(0, |card| card.size);
-    let there = size.saturating_sub(part.offset);
-    part.length.map_or(there, |length| length.min(there))
-}
-
 fn copy(
     loaded: &mut Loaded,
-    part: &Part,
+    asked: &mut impl Asked,
     out: &mut impl Write,
     mut progress: Progress,
     failed: impl Fn(io::Error) -> Failure,
 ) -> Result<u64, Failure> {
-    let mut held = vec![0; MOST_TRANSFER];
+    let mut held = Vec::new();
     let mut done = 0;
-    loop {
-        let at = part.offset.saturating_add(done);
-        let left = part.length.map_or(u64::MAX, |length| length - done);
-        let bytes = call_bytes(at).min(usize::try_from(left).unwrap_or(usize::MAX));
-        let buffer = held.get_mut(..bytes).unwrap_or_default();
-        let answer = loaded.store.lend().read(part.object, at, buffer);
-        let count = answer.map_err(|refusal| {
-            let doing = format!("read of file {} at byte {}", part.object, grouped(at));
-            loaded.refused(doing, refusal)
-        })?;
-        if count == 0 {
-            return Ok(done);
-        }
-        let count = count.min(bytes as u64);
-        out.write_all(held.get(..count as usize).unwrap_or_default())
-            .map_err(&failed)?;
-        done += count;
+    while asked.next(loaded, &mut held)? {
+        out.write_all(&held).map_err(&failed)?;
+        done += held.len() as u64;
         progress.tell(done);
     }
+    Ok(done)
 }

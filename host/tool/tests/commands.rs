@@ -234,7 +234,7 @@ fn explain_has_a_word_on_every_refusal() {
         assert!(text.contains(&refusal.to_string()), "{text}");
         assert!(text.contains("What to do: "), "{text}");
     }
-    assert!(refused(&["explain", "17"], 64).contains("1 to 16"));
+    assert!(refused(&["explain", "18"], 64).contains("1 to 17"));
     refused(&["explain", "0"], 64);
 }
 

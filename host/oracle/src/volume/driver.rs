@@ -63,9 +63,11 @@ fn answer(store: &mut Store, call: &Call, output: &mut [u8]) -> Outcome {
             let read = volume.read(&handle(object), *offset, output);
             read.map(|count| count as u64)
         }
-        Call::Fresh { .. } | Call::Enter { .. } | Call::Settle | Call::Fill => {
-            return Outcome::NoCounterpart;
-        }
+        Call::Fresh { .. }
+        | Call::Enter { .. }
+        | Call::ReadMany { .. }
+        | Call::Settle
+        | Call::Fill => return Outcome::NoCounterpart,
     };
     let count = match result {
         Ok(count) => count,

@@ -44,6 +44,7 @@ impl Library for Archive {
                 offset,
                 out,
             } => store.read(object, offset, out),
+            Request::ReadMany { list, out } => store.read_many_bytes(list, out),
         })
     }
 }
