@@ -2,7 +2,7 @@
 -- Assumes nothing.
 use mathlib.Core.Path.{_≡_, refl, sym, ap, _∙_}
 use mathlib.Core.Bool.{Bool, true, false}
-use mathlib.Core.List.{List, [], _∷_, _++_, map, flatMap}
+use mathlib.Core.List.{List, _++_, map, flatMap, append-nil}
 use Prim.Native.Nat.{ℕ, zero, suc, _+_, _-_, _/_, _≤_, _<_}
 use native.Mathlib.Omega.{arith}
 use lib.Dec.{ltb}
@@ -87,10 +87,6 @@ module _ (list sizes : List ℕ) where
     where
       one : (s : ℕ → List Pair) (j : ℕ) → flatMap s (range j 1) ≡ s j
       one s j = unfold flatMap range in append-nil (s j)
-        where
-          append-nil : (xs : List Pair) → xs ++ [] ≡ xs
-          append-nil [] = refl
-          append-nil (x ∷ xs) = ap (λ (ys : List Pair). x ∷ ys) (append-nil xs)
 
   module _ (p : Pair) where
     -- none of no reads touches it

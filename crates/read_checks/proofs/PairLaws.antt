@@ -2,7 +2,7 @@
 -- Assumes nothing.
 use mathlib.Core.Path.{_≡_, refl, sym, ap, _∙_}
 use mathlib.Core.Bool.{Bool, true, false, not, _||_}
-use mathlib.Core.List.{List, [], _∷_, _++_, map, append-assoc}
+use mathlib.Core.List.{List, [], _∷_, _++_, map, append-assoc, append-nil}
 use Prim.Native.Nat.{ℕ, zero, suc, _+_, _-_, _/_, _≤_, _<_}
 use native.Mathlib.Decide.{decLt}
 use native.Mathlib.Omega.{arith}
@@ -117,10 +117,6 @@ new-behind ps object first k =
 pub different-units : (k : ℕ) (ps : List Pair) (object first : ℕ) → different (ps ++ map (pairIs object) (range first k)) ≡ different ps + newUnits ps object (range first k)
 unfolding range
 different-units zero ps object first = rw (append-nil ps, new-none ps object) (omega arith)
-  where
-    append-nil : (xs : List Pair) → xs ++ [] ≡ xs
-    append-nil [] = refl
-    append-nil (x ∷ xs) = ap (λ (ys : List Pair). x ∷ ys) (append-nil xs)
 different-units (suc k) ps object first =
     let q : Pair = pairIs object first in
     let qs : List Pair = map (pairIs object) (range (suc first) k) in

@@ -7,7 +7,7 @@ use Prim.Native.Nat.{ℕ, zero, suc, _+_, _-_, _/_, _%_, _≤_, _<_}
 use native.Mathlib.Omega.{arith}
 use lib.Dec.{eqb, ltb}
 use lib.ListN.{length, take, drop, getD, length-drop}
-use lib.Seq.{length-take-le, getD-drop}
+use lib.Seq.{length-take-le, getD-drop, drop-drop}
 use borrow.Author.Tests.{eq-eqb, ne-eqb, ltb-false}
 use Rattle.rules.specs.Head.{Head, decodeHead}
 use Rattle.rules.specs.Refusal.{numberOf}
@@ -57,12 +57,6 @@ module _ (list out : List ℕ) where
 
 -- ---- the pieces of all reads
 
--- one element more left out
-drop-more : (i : ℕ) (xs : List ℕ) → drop 1 (drop i xs) ≡ drop (suc i) xs
-drop-more zero xs = refl
-drop-more (suc i) [] = refl
-drop-more (suc i) (x ∷ xs) = drop-more i xs
-
 module _ (b : Looked) (cards list sizes : List ℕ) (d : Readable (b .image) (b .extents) (b .groups) (decodeHead (b .head) .extents) (decodeHead (b .head) .groups))
     (right : (j : ℕ) → j < length list / tripleBytes → readNumber b cards (tripleAt list j) ≡ 0)
     (noted : (j : ℕ) → j < length list / tripleBytes → SizeIs (b .head) cards (tripleAt list j) (getD sizes j 0)) where
@@ -88,10 +82,9 @@ module _ (b : Looked) (cards list sizes : List ℕ) (d : Readable (b .image) (b 
       let w : length (take (t .len) out) ≡ t .len = length-take-le (t .len) out (omega (arith, l, m)) in
       let k : i + 0 ≡ i = omega arith in
       let z : getD (drop i sizes) 0 0 ≡ getD sizes i 0 = getD-drop i sizes 0 0 ∙ ap (λ (j : ℕ). getD sizes j 0) k in
-      let q : suc i ≡ i + 1 = omega arith in
       let y : length (drop (t .len) out) ≡ length out - t .len = length-drop (t .len) out in
       let h : piecesOf (b .image) (b .extents) (decodeHead (b .head) .extents) (triplesFrom list (i + 1)) (drop 1 (drop i sizes)) (drop (t .len) out) ≡ handedAll b cards (triplesFrom list (i + 1)) (drop (t .len) out) =
-      ap (λ (x : List ℕ). piecesOf (b .image) (b .extents) (decodeHead (b .head) .extents) (triplesFrom list (i + 1)) x (drop (t .len) out)) (drop-more i sizes ∙ ap (λ (j : ℕ). drop j sizes) q)
+      ap (λ (x : List ℕ). piecesOf (b .image) (b .extents) (decodeHead (b .head) .extents) (triplesFrom list (i + 1)) x (drop (t .len) out)) (drop-drop 1 i sizes)
       ∙ pieces-from n (i + 1) (omega (arith, e)) (drop (t .len) out) (omega (arith, y, l, m)) in
       rw (from-here list i (omega (arith, e)))
       (pieces-step t (triplesFrom list (i + 1)) (drop i sizes) out (getD sizes i 0) z
