@@ -16,12 +16,14 @@ pub mod DivisionLaws
 pub mod Crc
 pub mod Cases
 pub mod ManyCases
+pub mod FillCases
 pub mod Refused
 pub mod PassLaws
 pub mod OutcomeLaws
 pub mod FreshLaws
 pub mod EnterLaws
 pub mod SettleLaws
+pub mod FillLaws
 pub mod UnitListLaws
 pub mod CountLaws
 pub mod AllocationLaws

@@ -1,9 +1,10 @@
--- The calls settle and fill.
+-- The calls settle and fill: document 01's settle, and fill as document 02 has it (W-202), over the blocks that are not reserved.
 -- Assumes nothing.
 use mathlib.Core.List.{[]}
 use mathlib.Core.Bool.{false, not, _&&_}
-use Prim.Native.Nat.{ℕ, _*_, _/_}
-use Rattle.rules.specs.Lists.{count, range}
+use Prim.Native.Nat.{ℕ, _-_, _*_, _/_}
+use lib.Dec.{eqb, leb}
+use Rattle.rules.specs.Lists.{if_then_else_, count, range}
 use Rattle.rules.specs.Store.{Store, Volume, decode, encodeInto, withMaps}
 use Rattle.rules.specs.Refusal.{Outcome, firstOf}
 use Rattle.rules.specs.Refusal.Outcome.{accept}
@@ -21,14 +22,18 @@ retiredBlocks v = count (v .retired) (range 0 (v .blocks))
 unfoldable pub settleOutcome : Store → Outcome
 settleOutcome s = firstOf (storeCases s) (accept (retiredBlocks (decode s)) (encodeInto s (settled (decode s))) [])
 
--- the used blocks
-unfoldable pub usedBlocks : Volume → ℕ
-usedBlocks v = count (v .used) (range 0 (v .blocks))
+-- "Fill divides by blocks minus reserved": W-202's "what they can use"
+unfoldable pub usableBlocks : Volume → ℕ
+usableBlocks v = v .blocks - v .reserved
 
--- "Fill: used blocks times 1,000, divided by all blocks, rounded down."
+-- "and counts used blocks that are not reserved"
+unfoldable pub usedUsable : Volume → ℕ
+usedUsable v = count (λ n. v .used n && leb (v .reserved) n) (range 0 (v .blocks))
+
+-- document 01's "times 1,000, divided by [..], rounded down". W-202: "When every block is reserved the answer is 0."
 unfoldable pub perMille : ℕ → ℕ → ℕ
-perMille used all = used * 1000 / all
+perMille used usable = if eqb usable 0 then 0 else used * 1000 / usable
 
 -- refusals 1 and 2; the store stays
 unfoldable pub fillOutcome : Store → Outcome
-fillOutcome s = firstOf (storeCases s) (accept (perMille (usedBlocks (decode s)) (decode s .blocks)) s [])
+fillOutcome s = firstOf (storeCases s) (accept (perMille (usedUsable (decode s)) (usableBlocks (decode s))) s [])

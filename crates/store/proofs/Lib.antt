@@ -1,2 +1,3 @@
 pub mod MapLaws
 pub mod EnterLaws
+pub mod FillLaws

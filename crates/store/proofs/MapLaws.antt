@@ -21,7 +21,6 @@ use Rattle.rules.proofs.BitLaws.{length-bitBytes, bytes-bitBytes, bitSet-bitByt
 use Rattle.words.proofs.NumberLaws.{patch-whole}
 use Rattle.bitmap.specs.Map.{withBits}
 use Rattle.bitmap.specs.Pair.{only}
-use Rattle.rules.specs.Settle.{perMille}
 use Rattle.format.specs.Records.{headOf}
 use Rattle.store.specs.Buffers.{freshHead}
 use Rattle.bitmap.proofs.MapLaws.{length-withBits, bytes-withBits, bitSet-inside, bitSet-after}
@@ -97,12 +96,3 @@ fresh-head-is uuid r t blocks reserved l e q = q ∙ ap (λ (u : List ℕ). enco
 -- zeros have a bit for each of so many blocks
 pub zeros-hold : (blocks reserved w : ℕ) (z : List ℕ) → w ≡ mapBytes blocks → z ≡ replicate w 0 → reserved ≤ blocks → reserved ≤ 8 * length z
 zeros-hold blocks reserved w z n e l = let k : length z ≡ w = ap length e ∙ length-replicate {A = ℕ} w 0 in omega (arith, map-holds blocks w n, k)
-
--- the quotient is fill's
-pub per-mille-is : (used all r : ℕ) → r ≡ used * 1000 / all → r ≡ perMille used all
-unfolding perMille
-per-mille-is used all r e = e
-
--- of the used blocks that were counted
-pub per-mille-of : (f : ℕ → Bool) (blocks n r : ℕ) → n ≡ count f (range 0 (blocks - 0)) → r ≡ perMille n blocks → r ≡ perMille (count f (range 0 blocks)) blocks
-per-mille-of f blocks n r e q = q ∙ ap (λ (k : ℕ). perMille k blocks) (count-from f blocks n e)

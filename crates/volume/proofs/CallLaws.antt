@@ -3,7 +3,7 @@
 use mathlib.Core.Path.{_≡_, refl, sym, ap, ap₂, _∙_}
 use mathlib.Core.Bool.{Bool, true, false, not, _&&_}
 use mathlib.Core.List.{List, [], _∷_}
-use Prim.Native.Nat.{ℕ, suc, _*_, _/_, _≤_, _<_}
+use Prim.Native.Nat.{ℕ, suc, _-_, _*_, _/_, _≤_, _<_}
 use native.Mathlib.Omega.{arith}
 use lib.Dec.{ltb, eqb, leb}
 use borrow.Author.Tests.{eqb-true, leb-true, leb-false, not-false}
@@ -18,7 +18,7 @@ use Rattle.rules.specs.Extent.{extentBytes, decodeExtent, extentBefore}
 use Rattle.rules.specs.Group.{groupBytes, decodeGroup, groupBefore}
 use Rattle.rules.specs.Map.{mapBytes, encodeMap}
 use Rattle.rules.specs.Book.{decodeBook, decodeBooks, encodeBook, bookPlaces}
-use Rattle.rules.specs.Store.{Store, lent, StoreBytes, decode, decodeWith, headOf, encodeInto, imageBlocks, cardOf}
+use Rattle.rules.specs.Store.{Store, Volume, lent, StoreBytes, decode, decodeWith, headOf, encodeInto, imageBlocks, cardOf}
 use Rattle.rules.specs.Refusal.{Outcome, numberOf, firstOf, result}
 use Rattle.rules.specs.Refusal.Outcome.{refuse, accept}
 use Rattle.rules.specs.Refusal.Refusal.{wrong-length, broken-rule, card-exists, bad-time, no-card-place}
@@ -28,13 +28,14 @@ use Rattle.rules.specs.Integrity.{ordered, ruleBroken, storeCases}
 use Rattle.rules.specs.Arguments.{hasCard, timeWrong, cardsFull}
 use Rattle.rules.specs.Fresh.{freshVolume, freshOutcome}
 use Rattle.rules.specs.Enter.{newCard, entered, enterCases, enterOutcome}
-use Rattle.rules.specs.Settle.{settled, retiredBlocks, usedBlocks, perMille, settleOutcome, fillOutcome}
+use Rattle.rules.specs.Settle.{settled, retiredBlocks, usableBlocks, usedUsable, perMille, settleOutcome, fillOutcome}
 use Rattle.rules.specs.Call.{call}
 use Rattle.rules.specs.Call.Look.{fill}
 use Rattle.rules.specs.Call.Call.{fresh, enter, settle, look}
 use Rattle.rules.proofs.ListLaws.{test-cases, if-true, if-false, length-insert}
 use Rattle.rules.proofs.PassLaws.{buffers-sized, Passed, each-passed, Passes, BuffersSized, passes-sized, passes-head, passes-room, passes-whole, lawful-decode, room-decode}
 use Rattle.rules.proofs.OutcomeLaws.{goes-on}
+use Rattle.rules.proofs.FillLaws.{used-behind}
 use Rattle.rules.proofs.BookLaws.{length-decodeBook}
 use Rattle.rules.proofs.EnterLaws.{TimeRight, time-right}
 use Rattle.rules.proofs.StoreAfter.{fresh-left, enter-left, settle-left}
@@ -90,23 +91,26 @@ module _ (s : Store) (p : Passes s) where
   unfolding imageBlocks
   retired-sized = passes-sized s p .retired
 
-  -- there is a block
-  pub some-block : 0 < length (s .image) / blockBytes
-  unfolding imageBlocks
-  some-block = passes-sized s p .least
-
   -- and not too many
   pub few-blocks : length (s .image) / blockBytes ≤ mostBlocks
   unfolding imageBlocks
   few-blocks = passes-sized s p .most
 
-  -- what fill gives
-  pub fill-done : (r : ℕ) → r ≡ perMille (count (bitSet (s .used)) (range 0 (length (s .image) / blockBytes))) (length (s .image) / blockBytes) → gave 0 r s ≡ call (look fill) s
-  unfolding call fillOutcome usedBlocks result
-  fill-done r e =
-      let u : decode s .used ≡ bitSet (s .used) = unfold decode decodeWith in refl in
-      let k : perMille (count (decode s .used) (range 0 (decode s .blocks))) (decode s .blocks) ≡ r = rw (blocks-are, u) (sym e) in
-      sym (ap (result s []) (goes-on s (accept (perMille (count (decode s .used) (range 0 (decode s .blocks))) (decode s .blocks)) s []) p) ∙ ap (λ (n : ℕ). gave 0 n s) k)
+  -- the reserved ones are among them
+  pub reserved-inside : (m : ℕ) → m ≡ decodeHead (s .head) .reserved → m ≤ length (s .image) / blockBytes
+  unfolding decode decodeWith
+  reserved-inside m q = omega (arith, room-decode s p .reserved, blocks-are)
+
+  -- what fill gives, for the reserved blocks that the head says
+  pub fill-done : (m : ℕ) → m ≡ decodeHead (s .head) .reserved → (r : ℕ)
+      → r ≡ perMille (count (bitSet (s .used)) (range m (length (s .image) / blockBytes - m))) (length (s .image) / blockBytes - m) → gave 0 r s ≡ call (look fill) s
+  unfolding call fillOutcome usableBlocks result
+  fill-done m q r e =
+      let v : Volume = decode s in
+      let u : v .used ≡ bitSet (s .used) = unfold decode decodeWith in refl in
+      let k : v .reserved ≡ m = unfold decode decodeWith in sym q in
+      let w : perMille (usedUsable v) (v .blocks - v .reserved) ≡ r = rw (used-behind v (room-decode s p .reserved), blocks-are, k, u) (sym e) in
+      sym (ap (result s []) (goes-on s (accept (perMille (usedUsable v) (v .blocks - v .reserved)) s []) p) ∙ ap (λ (n : ℕ). gave 0 n s) w)
 
   -- what settle gives
   pub settle-done : StoreBytes s → (r : ℕ) (used retired : List ℕ) → r ≡ count (bitSet (s .retired)) (range 0 (length (s .image) / blockBytes))

@@ -75,7 +75,7 @@ pub extern "C" fn sangueko_read_many(
     }
 }
 
-// The used blocks of all, per mille. Nothing changes.
+// How much is used of the blocks that are not reserved, per mille; 0 where every block is reserved. Nothing changes.
 #[no_mangle]
 pub extern "C" fn sangueko_fill(
     image: &[u8],
@@ -92,7 +92,8 @@ pub extern "C" fn sangueko_fill(
     if number != 0 {
         return Answer { number, count: 0 };
     }
-    let count = store::fill::used_per_mille(used, image.len() / BLOCK_BYTES);
+    let reserved = store::fill::reserved_blocks(head);
+    let count = store::fill::used_per_mille(used, reserved, image.len() / BLOCK_BYTES);
     Answer { number: 0, count }
 }
 

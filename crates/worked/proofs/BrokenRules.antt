@@ -22,7 +22,7 @@ Told = (ℕ × ℕ) × Bool × Bool
 pub told : Store → Told
 told s = (answer (look fill) s, booksBroken s, mapsBroken s)
 
--- no rule is broken, and so many blocks of a thousand are used
+-- no rule is broken, and so many of a thousand usable blocks are used
 pub sound : ℕ → Told
 sound n = ((0, n), false, false)
 
@@ -59,15 +59,15 @@ lastBits used retired s =
 
 pub record Broken : Type 0 where
   -- "order": a card behind one that it stands before, and one twice; in order it passes
-  pub ordered : told (withCards (six ∷ card 8 1 12 13 ∷ []) (small 1 2)) ≡ sound 500
+  pub ordered : told (withCards (six ∷ card 8 1 12 13 ∷ []) (small 1 2)) ≡ sound 333
   pub order : told (withCards (card 8 1 12 13 ∷ six ∷ []) (small 1 2)) ≡ books
   pub twice : told (withCards (card 8 1 12 13 ∷ card 8 1 12 13 ∷ []) (small 1 2)) ≡ books
   -- an extent of file 8 before one of file 7
   pub extents-ordered : told (full (withFiles (card 8 1 12 13 ∷ eight ∷ []) (extent 0 3 1 ∷ eighth 0 ∷ []) (small 2 1))) ≡ sound 1000
   pub extents-order : told (full (withFiles (card 8 1 12 13 ∷ eight ∷ []) (eighth 0 ∷ extent 0 3 1 ∷ []) (small 2 1))) ≡ books
   -- a group of file 7 before one of file 6, group 1 before group 0, and group 0 twice
-  pub groups-ordered : told (withGroups (emptyGroup 6 1 ∷ zeroth 1 ∷ []) (small 1 2)) ≡ sound 500
-  pub groups-numbered : told (withGroups (zeroth 1 ∷ emptyGroup 7 1 ∷ []) (small 1 2)) ≡ sound 500
+  pub groups-ordered : told (withGroups (emptyGroup 6 1 ∷ zeroth 1 ∷ []) (small 1 2)) ≡ sound 333
+  pub groups-numbered : told (withGroups (zeroth 1 ∷ emptyGroup 7 1 ∷ []) (small 1 2)) ≡ sound 333
   pub groups-order : told (withGroups (zeroth 1 ∷ emptyGroup 6 1 ∷ []) (small 1 2)) ≡ books
   pub groups-number : told (withGroups (emptyGroup 7 1 ∷ zeroth 1 ∷ []) (small 1 2)) ≡ books
   pub groups-twice : told (withGroups (zeroth 1 ∷ zeroth 1 ∷ []) (small 1 2)) ≡ books
@@ -85,7 +85,7 @@ pub record Broken : Type 0 where
   pub extent-zeros : told (extentByte 32 1 (small 1 2)) ≡ books
   pub group-tag : told (groupByte 8 3 (small 1 2)) ≡ books
   -- "nanoseconds 1,000,000,000 or more"
-  pub last-nanosecond : told (withCards (card 8 1 12 999999999 ∷ []) (small 1 2)) ≡ sound 500
+  pub last-nanosecond : told (withCards (card 8 1 12 999999999 ∷ []) (small 1 2)) ≡ sound 333
   pub nanoseconds : told (withCards (card 8 1 12 1000000000 ∷ []) (small 1 2)) ≡ books
   -- "an extent with count 0"
   pub empty : told (withFiles (card 8 1 12 13 ∷ []) (extent 0 3 0 ∷ []) (small 1 2)) ≡ books
@@ -114,7 +114,7 @@ pub record Broken : Type 0 where
   pub reserved-unused : told (mapped 8 0 (small 1 2)) ≡ maps
   pub reserved-retired : told (mapped 9 1 (small 1 2)) ≡ maps
   -- "a retired block not used": block 1; used it passes
-  pub retired-used : told (mapped 11 2 (small 1 2)) ≡ sound 750
+  pub retired-used : told (mapped 11 2 (small 1 2)) ≡ sound 666
   pub retired-unused : told (mapped 9 2 (small 1 2)) ≡ maps
   -- "a bit past the last block": the one after it, and the map's last; in each map alone
   pub used-past : told (mapped 25 0 (small 1 2)) ≡ maps

@@ -9,5 +9,6 @@ pub mod BrokenRules
 pub mod Refused
 pub mod Order
 pub mod Run
+pub mod Fill
 pub mod ReadMany
 pub mod KeptBlocks

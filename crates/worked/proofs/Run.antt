@@ -31,8 +31,8 @@ pub record History : Type 0 where
   pub settle-answer : answer settle grown ≡ (0, 2)
   pub settle-extents : extents done ≡ extent 0 3 1 ∷ []
   pub settle-checksum : checksumOf (decode done) 7 0 ≡ some 3593734301
-  -- blocks 0 and 3 of four are used
-  pub fill-answer : answer (look fill) done ≡ (0, 500)
+  -- of blocks 1, 2 and 3 the last is used
+  pub fill-answer : answer (look fill) done ≡ (0, 333)
   -- four bytes from the second on, and the rest of the buffer as it was
   pub read-answer : answer (look (read 7 1 (replicate 4 77))) done ≡ (0, 4)
   pub read-bytes : call (look (read 7 4 (replicate 6 77))) done .out ≡ 5 ∷ 0 ∷ 0 ∷ 0 ∷ 77 ∷ 77 ∷ []

@@ -6,6 +6,7 @@ use Prim.Native.Nat.{ℕ, _*_}
 use lib.ListN.{replicate}
 use Rattle.rules.specs.Bytes.{patch, padded, bitSet}
 use Rattle.rules.specs.Time.{Time}
+use Rattle.rules.specs.Head.{encodeHead}
 use Rattle.rules.specs.Card.{Card}
 use Rattle.rules.specs.Extent.{Extent}
 use Rattle.rules.specs.Group.{Group, emptyGroup, setChecksumSlot}
@@ -71,6 +72,19 @@ card size allocated seconds nanoseconds = record { object = 7; size = size; allo
 -- the store with another head
 unfoldable pub withHead : List ℕ → Store → Store
 withHead head s = lent (s .image) head (s .cards) (s .extents) (s .groups) (s .used) (s .retired)
+
+-- with a head of these blocks, reserved ones and records
+unfoldable pub headed : (blocks reserved cards extents groups : ℕ) → Store → Store
+headed blocks reserved cards extents groups s =
+    withHead (encodeHead (record {
+      uuid = uuid;
+      blocks = blocks;
+      reserved = reserved;
+      hint = 0;
+      cards = cards;
+      extents = extents;
+      groups = groups;
+    })) s
 
 -- with these maps, the first byte of each: the blocks of these stores are few
 unfoldable pub mapped : ℕ → ℕ → Store → Store
@@ -144,5 +158,5 @@ small extents groups =
 -- ---- all of them opened by one name, with every definition of `rules`
 
 unfoldable pub computed : Unit {0}
-unfolding opened zeros uuid written overwritten grown done answer extents cards extent card withHead mapped imageByte cardByte extentByte groupByte booked withCards withFiles withGroups second zeroth made small
+unfolding opened zeros uuid written overwritten grown done answer extents cards extent card withHead headed mapped imageByte cardByte extentByte groupByte booked withCards withFiles withGroups second zeroth made small
 computed = tt

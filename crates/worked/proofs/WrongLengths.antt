@@ -7,12 +7,11 @@ use mathlib.Core.Bool.{true, false}
 use Prim.Native.Nat.{ℕ, _+_, _*_}
 use lib.ListN.{length, take, drop, replicate}
 use Rattle.rules.specs.Bytes.{patch}
-use Rattle.rules.specs.Head.{encodeHead}
 use Rattle.rules.specs.Store.{Store, lent}
 use Rattle.rules.specs.Lengths.{imageFits, bookFits}
 use Rattle.rules.specs.Call.Call.{fresh, look}
 use Rattle.rules.specs.Call.Look.{fill}
-use Rattle.worked.proofs.Stores.{uuid, small, answer, card, withHead, mapped, booked, computed}
+use Rattle.worked.proofs.Stores.{uuid, small, answer, card, withHead, headed, mapped, booked, computed}
 
 -- the store with another image
 pub imaged : List ℕ → Store → Store
@@ -25,19 +24,6 @@ withMaps used retired s = lent (s .image) (s .head) (s .cards) (s .extents) (s .
 -- with bytes behind its books
 pub longer : List ℕ → List ℕ → List ℕ → Store → Store
 longer cs es gs s = lent (s .image) (s .head) (s .cards ++ cs) (s .extents ++ es) (s .groups ++ gs) (s .used) (s .retired)
-
--- with a head of these blocks, reserved ones and records
-pub headed : (blocks reserved cards extents groups : ℕ) → Store → Store
-headed blocks reserved cards extents groups s =
-    withHead (encodeHead (record {
-      uuid = uuid;
-      blocks = blocks;
-      reserved = reserved;
-      hint = 0;
-      cards = cards;
-      extents = extents;
-      groups = groups;
-    })) s
 
 -- a store of no blocks
 pub blockless : Store
@@ -59,7 +45,7 @@ pub record Wrong : Type 0 where
   pub cards-long : answer (look fill) (longer (0 ∷ []) [] [] (small 1 2)) ≡ (1, 0)
   pub extents-long : answer (look fill) (longer [] (0 ∷ []) [] (small 1 2)) ≡ (1, 0)
   pub groups-long : answer (look fill) (longer [] [] (0 ∷ []) (small 1 2)) ≡ (1, 0)
-  pub places-more : answer (look fill) (longer (replicate 32 0) (replicate 33 0) (replicate 1073 0) (small 1 2)) ≡ (0, 500)
+  pub places-more : answer (look fill) (longer (replicate 32 0) (replicate 33 0) (replicate 1073 0) (small 1 2)) ≡ (0, 333)
   -- "or has over 1,048,575 places"
   pub most-places : (book : List ℕ) → length book ≡ 1048575 * 33 → bookFits 33 book ≡ true
   pub places-over : (book : List ℕ) → length book ≡ 1048576 * 33 → bookFits 33 book ≡ false
@@ -67,7 +53,7 @@ pub record Wrong : Type 0 where
   pub head-short : answer (look fill) (withHead (take 16 (small 1 2 .head) ++ drop 17 (small 1 2 .head)) (small 1 2)) ≡ (1, 0)
   pub head-long : answer (look fill) (withHead (take 16 (small 1 2 .head) ++ (0 ∷ drop 16 (small 1 2 .head))) (small 1 2)) ≡ (1, 0)
   -- "or [..] has blocks other than the image's": the maps would fit 3 and 5 blocks too
-  pub head-right : answer (look fill) (headed 4 1 1 1 1 (small 1 2)) ≡ (0, 500)
+  pub head-right : answer (look fill) (headed 4 1 1 1 1 (small 1 2)) ≡ (0, 333)
   pub blocks-fewer : answer (look fill) (headed 3 1 1 1 1 (small 1 2)) ≡ (1, 0)
   pub blocks-more : answer (look fill) (headed 5 1 1 1 1 (small 1 2)) ≡ (1, 0)
   -- "or record numbers above the places": two cards, one extent and two groups have one
@@ -75,7 +61,7 @@ pub record Wrong : Type 0 where
   pub extents-above : answer (look fill) (headed 4 1 1 2 1 (small 1 2)) ≡ (1, 0)
   pub groups-above : answer (look fill) (headed 4 1 1 1 3 (small 1 2)) ≡ (1, 0)
   -- "or reserved exceeds blocks": all of them may be
-  pub all-reserved : answer (look fill) (headed 4 4 0 0 0 (mapped 15 0 (booked [] [] [] (small 1 2)))) ≡ (0, 1000)
+  pub all-reserved : answer (look fill) (headed 4 4 0 0 0 (mapped 15 0 (booked [] [] [] (small 1 2)))) ≡ (0, 0)
   pub reserved-above : answer (look fill) (headed 4 5 0 0 0 (mapped 15 0 (booked [] [] [] (small 1 2)))) ≡ (1, 0)
   -- "fresh's uuid is not 16 bytes"
   pub uuid-short : answer (fresh (replicate 15 1) 1) (small 1 2) ≡ (1, 0)
@@ -89,7 +75,7 @@ pub record Wrong : Type 0 where
   pub fresh-book : answer (fresh uuid 1) (longer [] [] (0 ∷ []) (small 1 2)) ≡ (1, 0)
 
 pub wrong : Wrong
-unfolding computed imaged withMaps longer headed blockless
+unfolding computed imaged withMaps longer blockless
 wrong = record {
   not-whole = refl;
   no-block = refl;
