@@ -199,7 +199,8 @@ struct sangueko_answer sangueko_settle(
 
 /*
  * Tells how full the store is; changes nothing.
- * Count: the used blocks times 1,000, divided by all blocks, rounded down. Refused, in this order, by 1, 2.
+ * Count, 0 to 1,000: of the blocks that are not reserved the used ones (files' and retired), times 1,000, divided by how many are not reserved,
+ * rounded down; 0 where every block is reserved. Refused, in this order, by 1, 2.
  */
 struct sangueko_answer sangueko_fill(
     const uint8_t *image, size_t image_len,

@@ -148,7 +148,7 @@ int main(void)
         const char *name;
         struct sangueko_answer (*call)(void);
         uint64_t count;
-    } calls[] = { { "fresh", fresh, 0 }, { "enter", enter, 0 }, { "settle", settle, 1 }, { "fill", fill, 46 },
+    } calls[] = { { "fresh", fresh, 0 }, { "enter", enter, 0 }, { "settle", settle, 1 }, { "fill", fill, 31 },
                   { "read", read_file, SANGUEKO_BLOCK_BYTES }, { "read_many", read_many, 1 }, { "write", write_file, 70000 },
                   { "grow", grow_file, 0 } };
     int failed = 0;

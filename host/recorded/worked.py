@@ -4,7 +4,8 @@
     python3 host/recorded/worked.py        (from the repository's top; `rt fmt` lays the file out)
 
 Taken from answers.bin: calls on stores of at most 8 blocks and 4 group places, on files of at most 4,200 bytes (a checksum over more takes the
-checker too long), at most two for each kind of call, number and source. The format is README.md's, beside this file.
+checker too long), at most two for each kind of call, number and source; accepted fills with reserved blocks and without are two kinds. The format
+is README.md's, beside this file.
 """
 import struct
 from collections import Counter
@@ -155,6 +156,10 @@ def size_of(store, obj):
     return 0
 
 
+def reserved(store):
+    return int.from_bytes(store[1], 'big') >> 62 & (1 << 17) - 1
+
+
 def light(call, number, store, after):
     """The checker can compute it in seconds."""
     if len(store[0]) // 4096 > MOST_BLOCKS or len(store[4]) // 1073 > MOST_GROUPS:
@@ -172,7 +177,7 @@ def main():
         entries = list(Reader(f.read()).entries())
     text, taken = [HEADER], Counter()
     for n, (source, call, number, count, out, store, after) in enumerate(entries):
-        kind = (call[0], number, source)
+        kind = (call[0], number, source, call[0] == 'fill' and number == 0 and reserved(store) > 0)
         if taken[kind] == EACH or not light(call, number, store, after):
             continue
         taken[kind] += 1
@@ -186,7 +191,7 @@ def main():
         text.append('unfolding opened ramp before%d%s\nentry%d = refl\n' % (n, '' if store == after else ' ' + left, n))
     with open('crates/recorded_answers/proofs/Recorded.antt', 'w', encoding='utf-8') as f:
         f.write('\n'.join(text))
-    print(f'{sum(taken.values())} calls:', ', '.join(f'{k} {n}' for (k, n, s), c in sorted(taken.items()) for _ in range(c)))
+    print(f'{sum(taken.values())} calls:', ', '.join(f'{k} {n}' for (k, n, *_), c in sorted(taken.items()) for _ in range(c)))
 
 
 main()

@@ -362,3 +362,11 @@ before2524 = record { image = ramp 4096 0 0 ++ (22 ∷ []) ++ ramp 4095 0 0 ++ r
 pub entry2524 : call (look (read 0 0 (ramp 655360 165 0))) before2524 ≡ record { number = 3; count = 0; store = before2524; out = ramp 655360 165 0 }
 unfolding opened ramp before2524
 entry2524 = refl
+
+-- entry 2525, fill: accepted
+pub before2525 : Store
+before2525 = record { image = ramp 4096 0 0 ++ (22 ∷ []) ++ ramp 4095 0 0 ++ ramp 10 185 129 ++ ramp 1531 220 241 ++ ramp 3390 45 255 ++ ramp 15549 0 0; head = ramp 16 3 0 ++ (0 ∷ 3 ∷ 128 ∷ 0 ∷ 192 ∷ []) ++ ramp 7 0 0; cards = ramp 64 0 0; extents = ramp 1452 0 0; groups = ramp 4292 0 0; used = (7 ∷ []) ++ ramp 7 0 0; retired = ramp 8 0 0 }
+
+pub entry2525 : call (look (fill)) before2525 ≡ record { number = 0; count = 0; store = before2525; out = [] }
+unfolding opened ramp before2525
+entry2525 = refl

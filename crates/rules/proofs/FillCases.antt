@@ -54,9 +54,9 @@ pub record Table : Type 0 where
   pub three-of-sixteen : perMille 3 16 ≡ 187
   pub nearly-all : perMille 65534 65535 ≡ 999
 
-pub table : Table
+pub cases : Table
 unfolding opened bare fillOf layout
-table = record {
+cases = record {
   six = refl;
   of-seven = refl;
   layout-fill = refl;

@@ -97,9 +97,9 @@ module _ (s : Store) (p : Passes s) where
   few-blocks = passes-sized s p .most
 
   -- the reserved ones are among them
-  pub reserved-inside : (m : ℕ) → m ≡ decodeHead (s .head) .reserved → m ≤ length (s .image) / blockBytes
+  pub reserved-inside : decodeHead (s .head) .reserved ≤ length (s .image) / blockBytes
   unfolding decode decodeWith
-  reserved-inside m q = omega (arith, room-decode s p .reserved, blocks-are)
+  reserved-inside = omega (arith, room-decode s p .reserved, blocks-are)
 
   -- what fill gives, for the reserved blocks that the head says
   pub fill-done : (m : ℕ) → m ≡ decodeHead (s .head) .reserved → (r : ℕ)

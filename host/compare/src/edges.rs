@@ -95,6 +95,7 @@ pub fn edges() -> Vec<Edge> {
     holes(&mut all);
     neighbours(&mut all);
     shared(&mut all);
+    fills(&mut all);
     all.extend(many());
     all
 }
@@ -332,6 +333,45 @@ fn nothing(all: &mut Vec<Edge>) {
         ] {
             all.push(edge("with one buffer empty", &other, call));
         }
+    }
+}
+
+/// W-202: fill for every number of reserved blocks, from none to all, around
+/// the words of the maps: only those used, the first block behind them too, the
+/// last one too, and all of them, retired or not. And the store of document
+/// 01's `layout`, step by step.
+fn fills(all: &mut Vec<Edge>) {
+    for blocks in [1, 2, 7, 8, 9, 16, 63, 64, 65, 130] {
+        for reserved in 0..=blocks {
+            let store = after(Store::blank(blocks, 1, 1, 1), reserved, &[]);
+            all.push(edge("fill, reserved blocks alone", &store, Call::Fill));
+            if reserved == blocks {
+                continue;
+            }
+            for used in [reserved..reserved + 1, blocks - 1..blocks, reserved..blocks] {
+                for retired in [false, true] {
+                    let store = with(&store, |store| {
+                        let mut volume = Volume::decode(store);
+                        volume.used[used.start as usize..used.end as usize].fill(true);
+                        volume.retired[used.start as usize..used.end as usize].fill(retired);
+                        volume.encode(store);
+                    });
+                    all.push(edge("fill behind reserved blocks", &store, Call::Fill));
+                }
+            }
+        }
+    }
+    let mut calls = Vec::new();
+    for call in [
+        enter(7),
+        write(7, 0, 9_000),
+        write(7, 5_000, 10),
+        Call::Settle,
+        grow(7, 20_000),
+    ] {
+        calls.push(call);
+        let store = after(Store::blank(8, 1, 8, 1), 1, &calls);
+        all.push(edge("fill of layout's store", &store, Call::Fill));
     }
 }
 

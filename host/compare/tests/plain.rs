@@ -73,5 +73,5 @@ fn the_layout_store_prints_as_document_01_says() {
         .map(|e| format!("{} {} {} {}", e.object, e.logical, e.physical, e.count))
         .collect();
     assert_eq!(extents, ["7 0 1 1", "7 1 4 1", "7 2 2 2", "7 4 6 1"]);
-    assert_eq!(model::run(&mut store, &Call::Fill).count, 875);
+    assert_eq!(model::run(&mut store, &Call::Fill).count, 857);
 }

@@ -385,10 +385,18 @@ fn settle(store: &mut Store) -> u64 {
     count
 }
 
-/// "used blocks times 1,000, divided by all blocks, rounded down."
+/// W-202: "Fill divides by blocks minus reserved, and counts used blocks that
+/// are not reserved. When every block is reserved the answer is 0." Document
+/// 01: "times 1,000 [..], rounded down."
 fn fill(store: &Store) -> u64 {
     let volume = Volume::decode(store);
-    volume.used.iter().filter(|used| **used).count() as u64 * 1_000 / volume.blocks()
+    let usable = volume.blocks() - volume.reserved;
+    if usable == 0 {
+        return 0;
+    }
+    let behind = volume.used.iter().skip(volume.reserved as usize);
+    let used = behind.filter(|used| **used).count() as u64;
+    used * 1_000 / usable
 }
 
 // Units.

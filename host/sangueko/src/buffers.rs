@@ -45,7 +45,7 @@ impl StoreBuf {
     /// let mut buffers = StoreBuf::new(100, places)?;
     /// assert_eq!(buffers.lend().fill(), Err(Refusal::WrongLength)); // the head is zero
     /// assert_eq!(buffers.lend().fresh(&[0; 16], 10), Ok(0));
-    /// assert_eq!(buffers.lend().fill(), Ok(100));
+    /// assert_eq!(buffers.lend().fill(), Ok(0)); // none of the 90 that are not reserved
     /// assert_eq!(StoreBuf::new(0, places), Err(Refusal::WrongLength));
     /// # Ok::<(), Refusal>(())
     /// ```

@@ -24,7 +24,7 @@
 //! assert_eq!(store.read(7, 0, &mut out), Ok(6));
 //! assert_eq!(&out, b"kept\0\0");
 //! assert_eq!(store.settle(), Ok(1)); // the block that the grow took the place of
-//! assert_eq!(store.fill(), Ok(500)); // four blocks of eight
+//! assert_eq!(store.fill(), Ok(428)); // three of the seven blocks that are not reserved
 //! # Ok::<(), Refusal>(())
 //! ```
 //!

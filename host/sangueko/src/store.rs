@@ -22,7 +22,7 @@ use crate::{Range, Refusal, ffi};
 /// };
 /// assert_eq!(store.fresh(&[1; 16], 3), Err(Refusal::WrongLength)); // it has two blocks
 /// assert_eq!(store.fresh(&[1; 16], 1), Ok(0));
-/// assert_eq!(store.fill(), Ok(500));
+/// assert_eq!(store.fill(), Ok(0)); // one block is reserved, the other free
 /// assert_eq!(used, [1, 0, 0, 0, 0, 0, 0, 0]);
 /// ```
 #[derive(Debug)]
@@ -117,7 +117,7 @@ impl Store<'_> {
     /// assert_eq!(store.read(7, 0, &mut out), Ok(7));
     /// assert_eq!(&out, b"\0\0store\x01");
     /// assert_eq!(store.write(7, 3, b"ee", 1_700_000_002, 0), Ok(2));
-    /// assert_eq!(store.fill(), Ok(750)); // one reserved, one of the file, one retired
+    /// assert_eq!(store.fill(), Ok(666)); // of three, one is the file's and one retired
     /// assert_eq!(store.write(7, 0, &[1; 4097], 0, 0), Err(Refusal::NoSpace));
     /// assert_eq!(store.settle(), Ok(1));
     /// assert_eq!(store.write(7, 0, &[1; 4097], 0, 0), Ok(4097));
@@ -158,7 +158,7 @@ impl Store<'_> {
     /// assert_eq!(store.read(7, 1 << 39, &mut out), Ok(4));
     /// assert_eq!(out, [0; 4]);
     /// assert_eq!(store.grow(7, 10, 0, 0), Err(Refusal::BelowSize));
-    /// assert_eq!(store.fill(), Ok(250)); // of four blocks, the one reserved
+    /// assert_eq!(store.fill(), Ok(0)); // a hole takes no blocks
     /// # Ok::<(), Refusal>(())
     /// ```
     pub fn grow(
@@ -291,13 +291,29 @@ impl Store<'_> {
         ffi::settle(self)
     }
 
-    /// How full the store is: the used blocks times 1,000, divided by all
-    /// blocks, rounded down.
+    /// How full the store is, from 0 to 1,000: of the blocks that are not
+    /// reserved the used ones, those of files and the retired, times 1,000,
+    /// divided by how many are not reserved, rounded down. Where every block is
+    /// reserved it is 0.
     ///
     /// # Errors
     ///
     /// In this order: [`WrongLength`](Refusal::WrongLength),
     /// [`BrokenRule`](Refusal::BrokenRule).
+    ///
+    /// ```
+    /// # use sangueko::{Places, Refusal, StoreBuf};
+    /// # let mut buffers = StoreBuf::new(8, Places { cards: 1, extents: 4, groups: 1 })?;
+    /// # let mut store = buffers.lend();
+    /// store.fresh(&[0; 16], 1)?;
+    /// assert_eq!(store.fill(), Ok(0));
+    /// store.enter(7, 1_700_000_000, 0)?;
+    /// store.write(7, 0, &[1; 24_576], 1_700_000_001, 0)?;
+    /// assert_eq!(store.fill(), Ok(857)); // six of seven
+    /// store.fresh(&[0; 16], 8)?;
+    /// assert_eq!(store.fill(), Ok(0)); // no block can be used
+    /// # Ok::<(), Refusal>(())
+    /// ```
     pub fn fill(&self) -> Result<u64, Refusal> {
         ffi::fill(self)
     }

@@ -43,6 +43,7 @@ use crate::folder::Folder;
 use crate::help::{COMMANDS, TOP};
 use crate::json::Json;
 use crate::lock::Wait;
+use crate::picture::{Measures, kinds};
 use crate::ranges::Ranges;
 use crate::records::Records;
 use crate::transfer::{Part, Source, Target};
@@ -230,11 +231,16 @@ fn settle(given: &Given) -> Result<(), Failure> {
 fn fill(given: &Given) -> Result<(), Failure> {
     let mut loaded = folder(given)?.load()?;
     let per_mille = loaded.tested("fill")?;
+    let measures = Measures::of(&kinds(&Records::of(&loaded.store)));
     if given.switch("--json") {
-        let json = Json::Fields(vec![("per_mille", per_mille.into())]);
+        let json = Json::Fields(vec![
+            ("per_mille", per_mille.into()),
+            ("used", (measures.used() as u64).into()),
+            ("usable", (measures.usable() as u64).into()),
+        ]);
         return print(&format!("{json}\n"));
     }
-    print(&format!("{per_mille} per mille used\n"))
+    print(&format!("{}\n", measures.fullness(per_mille)))
 }
 
 fn show(given: &Given) -> Result<(), Failure> {

@@ -242,6 +242,30 @@ impl Measures {
         text
     }
 
+    /// Blocks that files can have.
+    pub fn usable(&self) -> usize {
+        self.blocks - self.reserved
+    }
+
+    /// How many of them are used, by files or retired.
+    pub fn used(&self) -> usize {
+        self.usable() - self.free
+    }
+
+    /// What the library answers, and what it divides by.
+    pub fn fullness(&self, per_mille: u64) -> String {
+        let of = match self.usable() {
+            0 => "every block is reserved".into(),
+            1 => format!("{} of the 1 block that is not reserved", self.used()),
+            usable => format!(
+                "{} of the {} that are not reserved",
+                grouped(self.used()),
+                counted(usable, "block")
+            ),
+        };
+        format!("{per_mille} per mille used: {of}")
+    }
+
     pub fn scatter(&self) -> String {
         if self.free == 0 {
             return "no free block".into();

@@ -79,7 +79,7 @@ fn fullness(
     view: &View,
     out: &mut impl Write,
 ) -> io::Result<()> {
-    writeln!(out, "fullness    {per_mille} per mille used")?;
+    writeln!(out, "fullness    {}", measures.fullness(per_mille))?;
     writeln!(out, "  {}", measures.bar(view.columns, view.colour))?;
     writeln!(
         out,
@@ -212,6 +212,8 @@ fn json(records: &Records<'_>, per_mille: u64) -> Json {
         ("reserved", head.reserved.into()),
         ("hint", head.hint.into()),
         ("per_mille", per_mille.into()),
+        ("used", number(measures.used())),
+        ("usable", number(measures.usable())),
         ("free", number(measures.free)),
         ("retired", number(measures.retired)),
         ("gaps", number(measures.gaps)),

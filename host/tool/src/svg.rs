@@ -53,9 +53,10 @@ fn columns(blocks: usize) -> usize {
 fn headline(text: &mut String, measures: &Measures, kinds: &[Kind], per_mille: u64) {
     let _ = writeln!(
         text,
-        "<text x=\"{MARGIN}\" y=\"{}\" font-size=\"16\">{}, {}.{} % used; {}</text>",
+        "<text x=\"{MARGIN}\" y=\"{}\" font-size=\"16\">{}, {} not reserved and {}.{} % of these used; {}</text>",
         MARGIN + LINE / 2,
         counted(measures.blocks, "block"),
+        grouped(measures.usable()),
         per_mille / 10,
         per_mille % 10,
         measures.scatter()

@@ -88,10 +88,16 @@ fn a_history_leaves_the_bytes_that_the_calls_leave() {
     assert_eq!(store_in(&store), expected);
 
     let fill = expected.lend().fill().unwrap();
-    assert_eq!(done(&["fill", folder]), format!("{fill} per mille used\n"));
+    let behind = |n: &usize| *n >= 2 && expected.used[n / 8] >> (n % 8) & 1 == 1;
+    let used = (0..64).filter(behind).count();
+    assert_eq!(fill, used as u64 * 1_000 / 62);
+    assert_eq!(
+        done(&["fill", folder]),
+        format!("{fill} per mille used: {used} of the 62 blocks that are not reserved\n")
+    );
     assert_eq!(
         done(&["fill", folder, "--json"]),
-        format!("{{\"per_mille\":{fill}}}\n")
+        format!("{{\"per_mille\":{fill},\"used\":{used},\"usable\":62}}\n")
     );
 
     let mut file = first;
@@ -190,7 +196,12 @@ fn show_draws_the_layout_store() {
         shown.contains("\n  7 0 1 1\n  7 1 4 1\n  7 2 2 2\n  7 4 6 1\n"),
         "{shown}"
     );
-    assert!(shown.contains("875 per mille"), "{shown}");
+    assert!(
+        shown.contains("857 per mille used: 6 of the 7 blocks that are not reserved\n"),
+        "{shown}"
+    );
+    let fill = done(&["fill", folder, "--json"]);
+    assert_eq!(fill, "{\"per_mille\":857,\"used\":6,\"usable\":7}\n");
     assert!(shown.contains("5 blocks in 4 pieces"), "{shown}");
     assert!(
         shown.contains("1 reserved, 5 of files, 1 retired; 1 free block in 1 gap"),
@@ -204,6 +215,10 @@ fn show_draws_the_layout_store() {
     let json = done(&["show", folder, "--json"]);
     assert!(json.contains("\"map\":\"#AAAA~A.\""), "{json}");
     assert!(
+        json.contains("\"per_mille\":857,\"used\":6,\"usable\":7,"),
+        "{json}"
+    );
+    assert!(
         json.contains("{\"object\":7,\"logical\":2,\"physical\":2,\"count\":2}"),
         "{json}"
     );
@@ -212,6 +227,10 @@ fn show_draws_the_layout_store() {
     done(&["show", folder, "--svg", svg.to_str().unwrap()]);
     let svg = fs::read_to_string(svg).unwrap();
     assert!(svg.starts_with("<svg ") && svg.ends_with("</svg>\n"));
+    assert!(
+        svg.contains(">8 blocks, 7 not reserved and 85.7 % of these used; 1 free block in 1 gap"),
+        "{svg}"
+    );
     // the bar: of 768, one reserved block of 8, then the file's five
     let bar = "<rect x=\"112\" y=\"36\" width=\"480\" height=\"20\" fill=\"#4285f4\"";
     assert!(svg.contains(bar), "{svg}");
@@ -225,6 +244,42 @@ fn show_draws_the_layout_store() {
     );
     // every tag is closed
     assert_eq!(svg.matches('<').count(), svg.matches('>').count());
+}
+
+/// W-202: what `fill` divides by, down to no block at all.
+#[test]
+fn fill_says_what_it_divides_by() {
+    let temporary = Temporary::new();
+    let told = |blocks: &str, reserved: &str| {
+        let folder = temporary.path(&format!("{reserved} of {blocks}"));
+        let folder = folder.to_str().unwrap();
+        done(&["new", folder, "--blocks", blocks, "--reserved", reserved]);
+        let shown = done(&["show", folder]);
+        let told = done(&["fill", folder]);
+        assert!(shown.contains(&format!("\nfullness    {told}")), "{shown}");
+        (told, done(&["fill", folder, "--json"]))
+    };
+    assert_eq!(
+        told("2000", "0"),
+        (
+            "0 per mille used: 0 of the 2,000 blocks that are not reserved\n".into(),
+            "{\"per_mille\":0,\"used\":0,\"usable\":2000}\n".into()
+        )
+    );
+    assert_eq!(
+        told("4", "3"),
+        (
+            "0 per mille used: 0 of the 1 block that is not reserved\n".into(),
+            "{\"per_mille\":0,\"used\":0,\"usable\":1}\n".into()
+        )
+    );
+    assert_eq!(
+        told("4", "4"),
+        (
+            "0 per mille used: every block is reserved\n".into(),
+            "{\"per_mille\":0,\"used\":0,\"usable\":0}\n".into()
+        )
+    );
 }
 
 #[test]

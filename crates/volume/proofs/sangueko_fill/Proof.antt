@@ -2,6 +2,7 @@
 -- Assumes nothing.
 use Rattle.volume.proofs.CallLaws.{not-stopped, fill-stopped, head-width, used-sized, few-blocks, reserved-inside, fill-done}
 use borrow.Author.Needs.{needs}
+use native.Mathlib.Omega.{arith}
 use Rattle.volume.proofs.sangueko_fill.Statement.{statement}
 use Rattle.volume.proofs.sangueko_fill.Tie as tie
 
@@ -17,7 +18,7 @@ reserved-blocks-requires c κs = head-width _ (not-stopped _ _ (c .before .refus
 used-per-mille-requires : tie.Need-used-per-mille-requires
 used-per-mille-requires c κs =
     let p = not-stopped _ _ (c .before .before .refused .ensures) (c .before .if1 .left) in
-    (used-sized _ p, reserved-inside _ p _ (c .reserved-blocks .ensures), few-blocks _ p)
+    (used-sized _ p, omega (arith, reserved-inside _ p, c .reserved-blocks .ensures), few-blocks _ p)
 
 returns-2 : tie.Need-returns-2
 returns-2 c =

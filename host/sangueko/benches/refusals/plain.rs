@@ -6,7 +6,8 @@ use sangueko::{
     Store, map_bytes,
 };
 
-/// The used blocks per mille, or the number of refusal 1 or 2.
+/// The used blocks per mille of those that are not reserved, or the number of
+/// refusal 1 or 2.
 pub fn fill(store: &Store<'_>) -> Result<u64, u32> {
     let head = lengths(store).ok_or(1u32)?;
     if !books(store, &head) || !maps(store, &head) {
@@ -15,7 +16,9 @@ pub fn fill(store: &Store<'_>) -> Result<u64, u32> {
     let used: u64 = words(store.used)
         .map(|word| u64::from(word.count_ones()))
         .sum();
-    Ok(used * 1_000 / head.blocks)
+    // past refusal 2 every reserved block is used
+    let (used, usable) = (used - head.reserved, head.blocks - head.reserved);
+    Ok((used * 1_000).checked_div(usable).unwrap_or(0))
 }
 
 struct Head {

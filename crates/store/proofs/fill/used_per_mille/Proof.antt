@@ -9,7 +9,7 @@ use Rattle.store.proofs.fill.used_per_mille.Statement.{statement}
 use Rattle.store.proofs.fill.used_per_mille.Tie as tie
 
 count-set-requires : tie.Need-count-set-requires
-count-set-requires c κs = (c .before .pre .1, map-holds _ _ (c .before .pre .0))
+count-set-requires c κs = (omega arith, map-holds _ _ (c .before .pre .0))
 
 sub-usable : tie.Need-sub-usable
 sub-usable c = search needs
