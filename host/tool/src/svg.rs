@@ -53,12 +53,17 @@ fn columns(blocks: usize) -> usize {
 fn headline(text: &mut String, measures: &Measures, kinds: &[Kind], per_mille: u64) {
     let _ = writeln!(
         text,
-        "<text x=\"{MARGIN}\" y=\"{}\" font-size=\"16\">{}, {} not reserved and {}.{} % of these used; {}</text>",
+        "<text x=\"{MARGIN}\" y=\"{}\" font-size=\"16\">{}, {}.{} % used of the {} not reserved</text>",
         MARGIN + LINE / 2,
         counted(measures.blocks, "block"),
-        grouped(measures.usable()),
         per_mille / 10,
         per_mille % 10,
+        grouped(measures.usable())
+    );
+    let _ = writeln!(
+        text,
+        "<text x=\"{MARGIN}\" y=\"{}\">{}</text>",
+        MARGIN + 3 * LINE - 3,
         measures.scatter()
     );
     let (mut blocks, mut drawn) = (0, 0);

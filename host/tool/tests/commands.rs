@@ -228,7 +228,7 @@ fn show_draws_the_layout_store() {
     let svg = fs::read_to_string(svg).unwrap();
     assert!(svg.starts_with("<svg ") && svg.ends_with("</svg>\n"));
     assert!(
-        svg.contains(">8 blocks, 7 not reserved and 85.7 % of these used; 1 free block in 1 gap"),
+        svg.contains(">8 blocks, 85.7 % used of the 7 not reserved</text>"),
         "{svg}"
     );
     // the bar: of 768, one reserved block of 8, then the file's five
