@@ -199,7 +199,7 @@ struct sangueko_answer sangueko_settle(
 
 /*
  * Tells how full the store is; changes nothing.
- * Count, 0 to 1,000: of the blocks that are not reserved the used ones (files' and retired), times 1,000, divided by how many are not reserved,
+ * Count, 0 to 1,000: of the blocks that are not reserved the used ones, retired ones among them, times 1,000, divided by how many are not reserved,
  * rounded down; 0 where every block is reserved. Refused, in this order, by 1, 2.
  */
 struct sangueko_answer sangueko_fill(

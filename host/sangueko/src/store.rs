@@ -292,9 +292,9 @@ impl Store<'_> {
     }
 
     /// How full the store is, from 0 to 1,000: of the blocks that are not
-    /// reserved the used ones, those of files and the retired, times 1,000,
-    /// divided by how many are not reserved, rounded down. Where every block is
-    /// reserved it is 0.
+    /// reserved the used ones, retired ones among them, times 1,000, divided by
+    /// how many are not reserved, rounded down. Where every block is reserved
+    /// it is 0.
     ///
     /// # Errors
     ///

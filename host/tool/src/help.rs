@@ -125,8 +125,8 @@ Lets the retired blocks go, which writes have taken the place of, and tells how 
         options: &[],
         switches: &[JSON, NO_WAIT],
         help: "\
-Tells how full the store is: of the blocks that are not reserved the used ones, files' and retired, times 1,000,
-divided by how many are not reserved, rounded down. Where every block is reserved it is 0.
+Tells how full the store is: of the blocks that are not reserved the used ones, retired ones among them, times
+1,000, divided by how many are not reserved, rounded down. Where every block is reserved it is 0.
 
   --json         for scripts
   --no-wait      do not wait for another process, end with 75

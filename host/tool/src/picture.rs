@@ -247,7 +247,7 @@ impl Measures {
         self.blocks - self.reserved
     }
 
-    /// How many of them are used, by files or retired.
+    /// How many of them are used, retired ones among them.
     pub fn used(&self) -> usize {
         self.usable() - self.free
     }

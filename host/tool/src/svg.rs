@@ -51,14 +51,19 @@ fn columns(blocks: usize) -> usize {
 }
 
 fn headline(text: &mut String, measures: &Measures, kinds: &[Kind], per_mille: u64) {
+    let (whole, tenth) = (per_mille / 10, per_mille % 10);
+    let used = match measures.usable() {
+        0 => "all reserved".into(),
+        usable => format!(
+            "{whole}.{tenth} % used of the {} not reserved",
+            grouped(usable)
+        ),
+    };
     let _ = writeln!(
         text,
-        "<text x=\"{MARGIN}\" y=\"{}\" font-size=\"16\">{}, {}.{} % used of the {} not reserved</text>",
+        "<text x=\"{MARGIN}\" y=\"{}\" font-size=\"16\">{}, {used}</text>",
         MARGIN + LINE / 2,
-        counted(measures.blocks, "block"),
-        per_mille / 10,
-        per_mille % 10,
-        grouped(measures.usable())
+        counted(measures.blocks, "block")
     );
     let _ = writeln!(
         text,

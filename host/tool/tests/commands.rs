@@ -280,6 +280,16 @@ fn fill_says_what_it_divides_by() {
             "{\"per_mille\":0,\"used\":0,\"usable\":0}\n".into()
         )
     );
+    let (folder, svg) = (temporary.path("4 of 4"), temporary.path("map.svg"));
+    let words = [
+        "show",
+        folder.to_str().unwrap(),
+        "--svg",
+        svg.to_str().unwrap(),
+    ];
+    done(&words);
+    let svg = fs::read_to_string(svg).unwrap();
+    assert!(svg.contains(">4 blocks, all reserved</text>"), "{svg}");
 }
 
 #[test]
