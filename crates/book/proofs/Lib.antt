@@ -1,4 +1,5 @@
 pub mod SearchLaws
+pub mod HalvesLaws
 pub mod OrderLaws
 pub mod SpliceLaws
 pub mod InsertLaws

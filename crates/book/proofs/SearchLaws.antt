@@ -22,6 +22,7 @@ use Rattle.rules.proofs.ListLaws.{if-true, if-false, test-cases, clash, any-ind
 use Rattle.rules.proofs.BookLaws.{length-decodeBook, getD-decodeBook}
 use Rattle.format.specs.declared.extent.Extent.{Extent as ExtentStruct}
 use Rattle.format.specs.Records.{extentOf}
+use Rattle.halving.specs.Halving.{Parted}
 use Rattle.book.specs.declared.Found.{Found}
 use Rattle.book.specs.declared.Found.the-variants.{At, Nothing}
 use Rattle.book.specs.Places.{recordAt, foundIn, placeOf, firstPlace, lastPlace, leading, FoundFirst, FloorExtent, cardIs, cardUnder, extentUnder, extentUpTo, groupIs, groupUnder}
@@ -213,19 +214,13 @@ module _ {A : Type 0} (decode : List ℕ → A) (w : ℕ) (s : List ℕ) where
           let all : (j : ℕ) → j < length b → f (getD b j (decode [])) ≡ false = λ j k. test-at n j false (omega arith) (h j (omega arith) (omega arith)) in
           record { place = sym (last-none f (decode []) b all); found = rw (filter-none f b (any-none f (decode []) b all)) refl; within = λ j q. no-place n j q }
 
-      -- so many stand in front of the first that fails
-      pub leading-here : (i : ℕ) (m : Bool) → i < n → Passes f decode w s i → m ≡ f (recordAt decode w s i) → not m ≡ true → i ≡ leading f (decodeBook decode w n s)
-      leading-here i m l h e t =
+      -- where a place parts those that pass from the others, so many stand in front
+      pub leading-parted : (place : ℕ) → Parted (λ j. f (recordAt decode w s j)) n place → place ≡ leading f (decodeBook decode w n s)
+      leading-parted place h =
           let b : List A = decodeBook decode w n s in
           let len : length b ≡ n = length-decodeBook decode w n s in
-          sym (leading-is f (decode []) b i (omega arith) (λ j k. test-at n j true (omega arith) (h j k)) (λ k. test-at n i false l (sym e ∙ not-true m t)))
-
-      -- all pass
-      pub leading-all : (i : ℕ) → n ≤ i → Passes f decode w s i → n ≡ leading f (decodeBook decode w n s)
-      leading-all i l h =
-          let b : List A = decodeBook decode w n s in
-          let len : length b ≡ n = length-decodeBook decode w n s in
-          sym (leading-is f (decode []) b n (omega arith) (λ j k. test-at n j true k (h j (omega arith))) (λ k. absurd (omega arith)))
+          sym (leading-is f (decode []) b place (omega (arith, h .most)) (λ j k. test-at n j true (omega (arith, h .most)) (h .front j k))
+          (λ k. test-at n place false (omega arith) (h .behind place (omega arith) (omega arith))))
 
 -- of extents up to a block that is the last one from there
 pub floor-extent : (object block n : ℕ) (s : List ℕ) (r : Found) → FoundLast (extentUpTo object block) decodeExtent extentBytes n s r → FloorExtent object block n s r

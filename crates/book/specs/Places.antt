@@ -1,10 +1,10 @@
 -- Places in a book: the record at one, where a search ends, and what an exchange of records leaves. Over any width, and any way to read a record.
 -- Assumes nothing.
 use mathlib.Core.Path.{_≡_}
-use mathlib.Core.Bool.{Bool, true, _&&_}
+use mathlib.Core.Bool.{Bool, true, _&&_, not}
 use mathlib.Core.List.{List, [], _∷_, _++_}
 use mathlib.Core.Option.{Option, none, some}
-use Prim.Native.Nat.{ℕ, suc, _+_, _-_, _*_, _<_}
+use Prim.Native.Nat.{ℕ, suc, _+_, _-_, _*_, _≤_, _<_}
 use lib.Dec.{eqb, leb, ltb}
 use lib.ListN.{length, take, drop}
 use Rattle.rules.specs.Lists.{if_then_else_, maybe, find, pairBefore}
@@ -15,6 +15,8 @@ use Rattle.rules.specs.Group.{Group}
 use Rattle.rules.specs.Book.{decodeBook, zeroBehind}
 use Rattle.rules.specs.Inspect.{floorExtent}
 use Rattle.rules.specs.Integrity.{apart}
+use Rattle.halving.specs.Halving.{looked, endsAt}
+use Rattle.halving.specs.Keys.{reaches}
 use Rattle.book.specs.declared.Found.{Found}
 use Rattle.book.specs.declared.Found.the-variants.{At, Nothing}
 
@@ -78,6 +80,26 @@ pub record FloorExtent (object block n : ℕ) (s : List ℕ) (r : Found) : Type 
   pub place : placeOf r ≡ lastPlace (extentUpTo object block) (decodeBook decodeExtent extentBytes n s)
   pub found : foundIn decodeExtent extentBytes s r ≡ floorExtent (decodeBook decodeExtent extentBytes n s) object block
   pub within : (i : ℕ) → placeOf r ≡ some i → i < n
+
+-- an extent that stands before the key of an object and a block, or at it
+abbrev pub extentReached : ℕ → ℕ → Extent → Bool
+extentReached object block e = reaches true object block (e .object) (e .logical)
+
+-- the same of the extent at a place
+abbrev pub reachedAt : ℕ → ℕ → List ℕ → ℕ → Bool
+reachedAt object block s i = extentReached object block (recordAt decodeExtent extentBytes s i)
+
+-- an extent stands in front of a place, and is one of the object
+unfoldable pub ownBefore : ℕ → List ℕ → ℕ → Bool
+ownBefore object s place = not (eqb place 0) && eqb (recordAt decodeExtent extentBytes s (place - 1) .object) object
+
+-- what a search by halves among n extents did, whatever the book: it took 20 rounds at most and looked at one extent in each; these say how many stand
+-- before the key or at it, and the last of those is the answer if it is one of the object
+pub record SearchedBook (object block n : ℕ) (s : List ℕ) (found : Found) (place rounds : ℕ) : Type 0 where
+  pub most : rounds ≤ 20
+  pub looks : rounds ≡ length (looked (reachedAt object block s) n)
+  pub ends : place ≡ endsAt (reachedAt object block s) 0 (looked (reachedAt object block s) n)
+  pub answer : placeOf found ≡ (if ownBefore object s place then some (place - 1) else none)
 
 -- the group with a key
 abbrev pub groupIs : ℕ → ℕ → Group → Bool

@@ -1,7 +1,6 @@
 // A book: records of one width side by side in a lent slice, ordered and packed, with their number beside it.
 //
-// `find` has the searches, `order` the tests of a book, `splice` the exchange of records. The searches scan; what they promise of an ordered
-// book would hold of a search by halves too.
+// `find` has the searches, `order` the tests of a book, `splice` the exchange of records.
 pub mod find;
 pub mod order;
 pub mod splice;

@@ -7,24 +7,29 @@ use mathlib.Core.Option.{some}
 use Prim.Native.Nat.{ℕ, suc, _+_, _-_, _*_, _≤_, _<_}
 use native.Mathlib.Omega.{arith}
 use borrow.Author.Count.{below-more}
-use borrow.Author.Tests.{eq-eqb, ne-eqb, not-true, not-false, le-ltb}
+use borrow.Author.Tests.{eq-eqb, ne-eqb, not-true, not-false, ltb-true, lt-ltb, le-ltb, leb-true, le-leb}
 use lib.Dec.{eqb, ltb, leb}
 use lib.ListN.{length, getD, set, take}
 use lib.Seq.{getD-set-same, getD-set-other}
-use Rattle.rules.specs.Lists.{if_then_else_, range}
+use Rattle.rules.specs.Lists.{if_then_else_, range, ascending, pairBefore}
 use Rattle.rules.specs.Bytes.{part}
 use Rattle.rules.specs.Sizes.{mostBlocks}
-use Rattle.rules.specs.Extent.{Extent, extentBytes, decodeExtent, extentEnd, covers, blockOf, mapping}
-use Rattle.rules.proofs.ListLaws.{test-cases, if-true, if-false}
+use Rattle.rules.specs.Extent.{Extent, extentBytes, decodeExtent, extentBefore, extentEnd, covers, blockOf, mapping}
+use Rattle.rules.proofs.ListLaws.{test-cases, clash, if-true, if-false, and-left, and-right, and-intro, or-cases, or-left, pairBefore-first}
 use Rattle.history.proofs.MappingLaws.{mapping-yes, mapping-no, mapping-nil}
 use Rattle.format.specs.declared.extent.Extent.{Extent as ExtentStruct}
 use Rattle.format.specs.Records.{extentOf}
 use Rattle.held.specs.Held.{noExtent, OnDevice, HeldRight, entryThrough, orElse, heldEntry, Mapped}
-use Rattle.book.specs.Places.{recordAt}
+use Rattle.halving.specs.Halving.{Parted}
+use Rattle.halving.specs.Keys.{reaches}
+use Rattle.book.specs.declared.Found.{Found}
+use Rattle.book.specs.declared.Found.the-variants.{At, Nothing}
+use Rattle.book.specs.Places.{recordAt, extentReached, reachedAt, SearchedBook}
+use Rattle.book.proofs.HalvesLaws.{up-to-reached, reached-cases, searched-own, searched-other}
 use Rattle.mapping.specs.Entries.{entryOf, entries, extentsIn, ExtentsRight}
 use Rattle.mapping.specs.Held.{mostStretch, liesBefore, startsBefore, StretchFrom, heldAt, heldOf, RoomAhead, HeldAhead}
 use Rattle.mapping.proofs.EntryLaws.{filled-all}
-use Rattle.mapping.proofs.StretchLaws.{front-of, behind-of, Starting, few-ahead, held-mapping, device-at, not-ended}
+use Rattle.mapping.proofs.StretchLaws.{front-of, behind-of, front-of-floor, Starting, few-ahead, held-mapping, device-at, not-ended}
 
 -- ---- the tests of one extent
 
@@ -61,30 +66,66 @@ module _ (object x : ℕ) (c : ExtentStruct) where
 
 -- ---- the search for the place
 
-module _ (object block n : ℕ) (s : List ℕ) where
-  -- nothing is parted yet
-  pub parted-none : (j : ℕ) → j < 0 → liesBefore object block (recordAt decodeExtent extentBytes s j) ≡ true
-  parted-none j l = absurd (omega arith)
+-- an extent that lies before a block is reached
+lies-reached : (object block : ℕ) (e : Extent) → liesBefore object block e ≡ true → extentReached object block e ≡ true
+unfolding liesBefore reaches extentEnd
+lies-reached object block e h =
+    or-cases (extentReached object block e ≡ true) (ltb (e .object) object) (eqb (e .object) object && leb (e .logical + e .count) block) h
+    (λ t. or-left (pairBefore (e .object) (e .logical) object block) _ (pairBefore-first (e .object) (e .logical) object block (ltb-true (e .object) object t)))
+    (λ t. let l : e .logical + e .count ≤ block = leb-true (e .logical + e .count) block (and-right (eqb (e .object) object) (leb (e .logical + e .count) block) t) in
+    up-to-reached object block e (and-intro (eqb (e .object) object) (leb (e .logical) block) (and-left (eqb (e .object) object) (leb (e .logical + e .count) block) t) (le-leb (e .logical) block (omega arith))))
 
-  -- nothing stands behind the last
-  pub parted-last : (j : ℕ) → n ≤ j → j < n → liesBefore object block (recordAt decodeExtent extentBytes s j) ≡ false
-  parted-last j l k = absurd (omega arith)
+-- one of a lower object lies before it
+lower-lies : (object block : ℕ) (e : Extent) → e .object < object → liesBefore object block e ≡ true
+unfolding liesBefore
+lower-lies object block e l = or-left (ltb (e .object) object) (eqb (e .object) object && leb (extentEnd e) block) (lt-ltb (e .object) object l)
 
-  -- the place is found
-  pub parted : (low high : ℕ) → low ≤ high → high ≤ n → high ≤ low
-      → ((j : ℕ) → j < low → liesBefore object block (recordAt decodeExtent extentBytes s j) ≡ true)
-      → ((j : ℕ) → high ≤ j → j < n → liesBefore object block (recordAt decodeExtent extentBytes s j) ≡ false)
-      → StretchFrom object block n s low
-  parted low high l k g f b = record { most = omega arith; front = f; behind = λ j m c. b j (omega arith) c }
+module _ {m n : ℕ} {s : List ℕ} (r : ExtentsRight m n s) {object block : ℕ} {found : Found} {place rounds : ℕ}
+    (d : ascending extentBefore (extentsIn n s) ≡ true → Parted (reachedAt object block s) n place) (b : SearchedBook object block n s found place rounds) where
+  -- from the place on no extent lies before the block
+  none-lies : (j : ℕ) → place ≤ j → j < n → liesBefore object block (recordAt decodeExtent extentBytes s j) ≡ false
+  none-lies j l k =
+      test-cases (liesBefore object block (recordAt decodeExtent extentBytes s j) ≡ false) (liesBefore object block (recordAt decodeExtent extentBytes s j))
+      (λ t. absurd (clash (d (r .order) .behind j l k) (lies-reached object block (recordAt decodeExtent extentBytes s j) t))) (λ t. t)
 
-module _ {m n : ℕ} {s : List ℕ} (r : ExtentsRight m n s) (object block i : ℕ) (t : Bool) (u : t ≡ liesBefore object block (recordAt decodeExtent extentBytes s i)) where
-  -- an extent that lies before the block has all in front of it with it
-  pub parted-low : i < n → t ≡ true → (j : ℕ) → j < i + 1 → liesBefore object block (recordAt decodeExtent extentBytes s j) ≡ true
-  parted-low l v = front-of r object block i l (sym u ∙ v)
+  -- where none was found all in front of it do
+  pub stretch-none : found ≡ Nothing → StretchFrom object block n s place
+  stretch-none e = record { most = d (r .order) .most; front = λ j l. front j l; behind = none-lies }
+    where
+      front : (j : ℕ) → j < place → liesBefore object block (recordAt decodeExtent extentBytes s j) ≡ true
+      front j l =
+          let k : ℕ = place - 1 in
+          front-of r object block k (omega (arith, d (r .order) .most))
+          (reached-cases object block (recordAt decodeExtent extentBytes s k) (liesBefore object block (recordAt decodeExtent extentBytes s k) ≡ true) (d (r .order) .front k (omega arith))
+          (λ q. lower-lies object block (recordAt decodeExtent extentBytes s k) q)
+          (λ q _. absurd (searched-other b e (omega arith) q))) j (omega arith)
 
-  -- and one that does not all behind it
-  pub parted-high : t ≡ false → (j : ℕ) → i ≤ j → j < n → liesBefore object block (recordAt decodeExtent extentBytes s j) ≡ false
-  parted-high v = behind-of r object block i (sym u ∙ v)
+  module _ (i : ℕ) (e : found ≡ At i) where
+    -- the floor is one of the book
+    pub floor-within : i < n
+    floor-within = let q = searched-own b i e .0 in omega (arith, d (r .order) .most)
+
+    module _ (t : Bool) (u : t ≡ liesBefore object block (recordAt decodeExtent extentBytes s i)) where
+      -- the floor ends behind the block
+      pub stretch-floor : not t ≡ true → StretchFrom object block n s i
+      stretch-floor v =
+          let q = searched-own b i e in
+          record {
+            most = omega (arith, floor-within);
+            front = reached-cases object block (recordAt decodeExtent extentBytes s i) ((j : ℕ) → j < i → liesBefore object block (recordAt decodeExtent extentBytes s j) ≡ true) (d (r .order) .front i (omega (arith, q .0)))
+                (λ l. absurd (omega (arith, q .1))) (λ o l. front-of-floor r object block i floor-within o l);
+            behind = behind-of r object block i (sym u ∙ not-true t v);
+          }
+
+      -- or there or before
+      pub stretch-next : not t ≡ false → StretchFrom object block n s place
+      stretch-next v =
+          let q = searched-own b i e in
+          record {
+            most = d (r .order) .most;
+            front = λ j l. front-of r object block i floor-within (sym u ∙ not-false t v) j (omega (arith, q .0));
+            behind = none-lies;
+          }
 
 -- ---- the array
 

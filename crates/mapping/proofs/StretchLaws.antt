@@ -177,6 +177,15 @@ module _ {m n : ℕ} {s : List ℕ} (r : ExtentsRight m n s) where
         (λ t. absurd (clash h (front-of j l t i (omega arith))))
         (λ t. t)
 
+    -- one of the object that starts at the block or before has all in front of it before the block
+    pub front-of-floor : (i : ℕ) → i < n → recordAt decodeExtent extentBytes s i .object ≡ object → recordAt decodeExtent extentBytes s i .logical ≤ block
+        → (j : ℕ) → j < i → liesBefore object block (recordAt decodeExtent extentBytes s j) ≡ true
+    front-of-floor i l o h j k = under-of object block _ (go (ahead-at j i k l))
+      where
+        go : Ahead (recordAt decodeExtent extentBytes s j) (recordAt decodeExtent extentBytes s i) → Under object block (recordAt decodeExtent extentBytes s j)
+        go (other p) = lower (omega arith)
+        go (same p q) = ended (p ∙ o) (omega arith)
+
   -- ---- held ahead
 
   module _ {object limit place : ℕ} where

@@ -1,4 +1,4 @@
-// Where the blocks of a stretch of a file are on the device. The book is searched once; the extents of the stretch, which stand side by side in
+// Where the blocks of a stretch of a file are on the device. The book is searched once, by halves; the extents of the stretch, which stand side by side in
 // it, are then held ahead in an array, which is lent for the lookup of each block (`held`).
 ghost use mathlib.Core.Path.{_≡_};
 ghost use mathlib.Core.List.{map};
@@ -11,6 +11,7 @@ ghost use Rattle.format.specs.Records.{extentOf};
 ghost use Rattle.book.specs.Places.{recordAt};
 ghost use Rattle.mapping.specs.Entries.{entries, extentsIn, ExtentsRight};
 ghost use Rattle.mapping.specs.Held.{mostStretch, liesBefore, startsBefore, StretchFrom, RoomAhead, HeldAhead};
+use book::Found;
 use format::extent::EXTENT_BYTES;
 use format::extent::Extent;
 use held::MOST_STRETCH;
@@ -33,22 +34,19 @@ fn lies_before(s: &[u8], i: usize, object: u64, block: u64) -> bool
     e.ends_by(block)
 }
 
-// The place of the first extent that does not lie before `block`, or `n`: found by halves, since those before it stand in front.
+// The place of the first extent that does not lie before `block`, or `n`: the floor of `block` if it ends behind it, and else the next.
 fn first_from(s: &[u8], n: usize, object: u64, block: u64) -> usize
     requires { ⌜ ExtentsRight mostBlocks n (now s) ⌝ }
     ensures { λ r. ⌜ StretchFrom object block n (now (s .entry)) r ⌝ }
 {
-    let mut low: usize = 0;
-    let mut high = n;
-    while low < high {
-        let middle = low + (high - low) / 2;
-        if lies_before(s, middle, object, block) {
-            low = middle + 1;
-        } else {
-            high = middle;
+    let r = book::find::search_extent(s, n, object, block);
+    let found = r.found;
+    if let Found::At(i) = found {
+        if !lies_before(s, i, object, block) {
+            return i;
         }
     }
-    low
+    r.place
 }
 
 // Whether an extent is one of `object` that starts before `limit`.

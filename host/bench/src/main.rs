@@ -19,10 +19,11 @@ use std::hint::black_box;
 use std::time::Duration;
 
 use model::Store;
-use oracle::Mounted;
+use oracle::{Mounted, compute_checksums_by};
 
-use crate::measure::alone;
-use crate::stores::{PLACES, STORES, extents, lend, store};
+use crate::checksum::by_instruction;
+use crate::measure::{alone, times};
+use crate::stores::{STORES, extents, lend, store};
 
 const ROUNDS: u32 = 30;
 const SPAN: Duration = Duration::from_millis(4);
@@ -74,18 +75,35 @@ fn tests_alone(store: &mut Store) -> f64 {
     })
 }
 
-/// The same calls over stores of more and more extents: what they cost beside
-/// the tests of the store.
+/// Small calls over stores of more and more extents, beside the Rust with the
+/// instruction: what a call costs beside the tests of the store, and what they
+/// cost for each extent. The book of groups has few places, so that what stands
+/// behind its records does not hide the extents.
 fn by_extents() {
     println!(
-        "-- extents in another file: read 1 MiB, 100 bytes, write 1 MiB, 4 KiB, refusals 1 and 2, in us"
+        "-- extents in another file, in us: refusals 1 and 2 (ns an extent); ours, Rust's, ratio for each call"
     );
+    let mut few = None;
     for other in [10, 100, 1_000, 10_000, 100_000] {
-        let mut store = store(extents(10, other, PLACES));
-        let mut row = reads::ours(&mut store).to_vec();
-        row.extend(writes::ours(&mut store));
-        row.push(tests_alone(&mut store));
-        let row: Vec<String> = row.iter().map(|t| format!("{:>10.2}", t * 1e6)).collect();
-        println!("{other:>8} {}", row.join(" "));
+        let mut store = store(extents(10, other, 0));
+        let tests = tests_alone(&mut store);
+        let (least, from) = *few.get_or_insert((tests, other));
+        let each = if other == from {
+            0.0
+        } else {
+            (tests - least) / (other - from) as f64
+        };
+        println!(
+            "{other:>8} extents {:>10.2} ({:.2} ns)",
+            tests * 1e6,
+            each * 1e9
+        );
+        let mut mounted = Mounted::new(&store);
+        compute_checksums_by(by_instruction);
+        for (name, best) in reads::small(&mut store, &mut mounted) {
+            times(&format!("{other} extents, read {name}"), best);
+        }
+        let (name, best) = writes::small(&mut store, &mut mounted);
+        times(&format!("{other} extents, write {name}"), best);
     }
 }

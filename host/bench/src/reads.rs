@@ -7,7 +7,7 @@ use std::hint::black_box;
 use model::{Store, UNIT_BYTES};
 use oracle::{Mounted, compute_checksums_by};
 
-use crate::measure::{alone, pair, times};
+use crate::measure::{pair, times};
 use crate::stores::{CHECKSUMS, OBJECT, lend, places};
 use crate::{MIB, ROUNDS, SPAN, over};
 
@@ -49,48 +49,46 @@ impl Shape {
         let units = places(self.places).into_iter();
         units.map(|unit| unit * UNIT_BYTES + self.within).collect()
     }
+
+    /// The best time of one call of each; their bytes are compared first.
+    fn timed(&self, store: &mut Store, mounted: &mut Mounted) -> (f64, f64) {
+        let lent = lend(store);
+        let offsets = self.offsets();
+        let (mut ours, mut theirs) = (vec![0; self.length], vec![0; self.length]);
+        for &offset in &offsets {
+            lent.read(OBJECT, offset, &mut ours).expect("a read");
+            mounted.read(OBJECT, offset, &mut theirs).expect("a read");
+            assert!(ours == theirs, "{} at {offset}", self.name);
+        }
+        let (mut a, mut b) = (offsets.iter().cycle(), offsets.iter().cycle());
+        pair(
+            ROUNDS,
+            SPAN,
+            || {
+                let offset = *a.next().expect("an offset");
+                let _ = black_box(lent.read(OBJECT, offset, black_box(&mut ours)));
+            },
+            || {
+                let offset = *b.next().expect("an offset");
+                black_box(mounted.read(OBJECT, offset, black_box(&mut theirs)));
+            },
+        )
+    }
 }
 
 /// Each shape on a store, ours and theirs.
 pub fn compared(store: &mut Store, mounted: &mut Mounted, many: bool) {
-    let lent = lend(store);
     for shape in &SHAPES {
-        let offsets = shape.offsets();
-        let (mut ours, mut theirs) = (vec![0; shape.length], vec![0; shape.length]);
-        for &offset in &offsets {
-            lent.read(OBJECT, offset, &mut ours).expect("a read");
-            mounted.read(OBJECT, offset, &mut theirs).expect("a read");
-            assert!(ours == theirs, "{} at {offset}", shape.name);
-        }
         for (with, checksum) in CHECKSUMS {
             compute_checksums_by(checksum);
-            let (mut a, mut b) = (offsets.iter().cycle(), offsets.iter().cycle());
-            let best = pair(
-                ROUNDS,
-                SPAN,
-                || {
-                    let offset = *a.next().expect("an offset");
-                    let _ = black_box(lent.read(OBJECT, offset, black_box(&mut ours)));
-                },
-                || {
-                    let offset = *b.next().expect("an offset");
-                    black_box(mounted.read(OBJECT, offset, black_box(&mut theirs)));
-                },
-            );
+            let best = shape.timed(store, mounted);
             times(&format!("read {}, and Rust with {with}", shape.name), best);
             over(with, shape.limits[usize::from(many)], best);
         }
     }
 }
 
-/// Our times for 1 MiB and for 100 bytes, the same again and again.
-pub fn ours(store: &mut Store) -> [f64; 2] {
-    let lent = lend(store);
-    [&SHAPES[0], &SHAPES[4]].map(|shape| {
-        let offset = shape.offsets()[0];
-        let mut out = vec![0; shape.length];
-        alone(ROUNDS, SPAN, || {
-            let _ = black_box(lent.read(OBJECT, offset, black_box(&mut out)));
-        })
-    })
+/// The small ones, each with its name.
+pub fn small(store: &mut Store, mounted: &mut Mounted) -> [(&'static str, (f64, f64)); 2] {
+    [&SHAPES[4], &SHAPES[5]].map(|shape| (shape.name, shape.timed(store, mounted)))
 }

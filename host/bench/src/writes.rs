@@ -66,12 +66,11 @@ const SHAPES: [Shape; 7] = [
         places: 1,
         limits: [0.6, 0.6],
     },
-    ONE_MIB,
+    write("1 MiB", MIB, 0, Between::Settle),
     write("1 MiB, not aligned", MIB, 1_000, Between::Settle),
     FOUR_KIB,
 ];
 
-const ONE_MIB: Shape = write("1 MiB", MIB, 0, Between::Settle);
 const FOUR_KIB: Shape = write("4 KiB in a unit", 4_096, 20_480, Between::Settle);
 
 const fn write(name: &'static str, length: usize, within: u64, between: Between) -> Shape {
@@ -273,29 +272,13 @@ fn pair(
     (best_ours, best_theirs)
 }
 
-/// Our times for 1 MiB and for 4 KiB, settled.
-pub fn ours(store: &mut Store) -> [f64; 2] {
+/// The small one, with its name.
+pub fn small(store: &mut Store, mounted: &mut Mounted) -> (&'static str, (f64, f64)) {
     let bytes = bytes();
-    [ONE_MIB, FOUR_KIB].map(|shape| {
-        let Job::Write { length, within } = shape.job else {
-            unreachable!("a write");
-        };
-        let call = Call {
-            at: places(1)[0] * UNIT_BYTES + within,
-            bytes: Some(&bytes[..length]),
-        };
-        (0..ROUNDS).fold(f64::INFINITY, |best, _| {
-            let mut took = Duration::ZERO;
-            for _ in 0..shape.calls() {
-                let start = Instant::now();
-                let told = black_box(call.ours(black_box(store)));
-                took += start.elapsed();
-                assert_eq!(told, Ok(call.count()));
-                assert!(lend(store).settle().is_ok());
-            }
-            best.min(took.as_secs_f64() / shape.calls() as f64)
-        })
-    })
+    let calls = prepared(&FOUR_KIB, &bytes, store, mounted);
+    let first = First::of(store, mounted);
+    let best = pair(&FOUR_KIB, &calls, &first, store, mounted);
+    (FOUR_KIB.name, best)
 }
 
 fn bytes() -> Vec<u8> {

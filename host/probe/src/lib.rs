@@ -31,6 +31,20 @@ mod probe {
             new: *const u8,
             new_len: usize,
         ) -> bool;
+        pub fn sangueko_probe_floor_extent(
+            book: *const u8,
+            len: usize,
+            n: usize,
+            object: u64,
+            block: u64,
+        ) -> usize;
+        pub fn sangueko_probe_search_rounds(
+            book: *const u8,
+            len: usize,
+            n: usize,
+            object: u64,
+            block: u64,
+        ) -> u32;
         pub fn sangueko_probe_allocate(
             map: *mut u8,
             map_len: usize,
@@ -109,6 +123,19 @@ pub fn extents_ordered(book: &[u8]) -> bool {
 pub fn splice_extents(book: &mut [u8], n: usize, i: usize, k: usize, new: &[u8]) -> bool {
     let (to, len) = (book.as_mut_ptr(), book.len());
     unsafe { probe::sangueko_probe_splice_extents(to, len, n, i, k, new.as_ptr(), new.len()) }
+}
+
+/// The place of the last of the first `n` extents that is one of `object` and
+/// starts at `block` or before, in a book that is ordered.
+pub fn floor_extent(book: &[u8], n: usize, object: u64, block: u64) -> Option<usize> {
+    let (at, len) = (book.as_ptr(), book.len());
+    unsafe { probe::sangueko_probe_floor_extent(at, len, n, object, block) }.checked_sub(1)
+}
+
+/// The rounds that this search takes, in any book.
+pub fn search_rounds(book: &[u8], n: usize, object: u64, block: u64) -> u32 {
+    let (at, len) = (book.as_ptr(), book.len());
+    unsafe { probe::sangueko_probe_search_rounds(at, len, n, object, block) }
 }
 
 /// One call's allocations, unit after unit: a copy of the used map in which

@@ -1,66 +1,42 @@
 -- `mapping::extents::first_from` meets its contract.
 -- Assumes nothing.
 use native.Mathlib.Omega.{arith}
-use mathlib.Core.Path.{_≡_}
-use mathlib.Core.Bool.{true, false}
-use Prim.Native.Nat.{ℕ, _-_, _≤_, _<_}
-use Rattle.rules.specs.Extent.{extentBytes, decodeExtent}
-use Rattle.book.specs.Places.{recordAt}
-use Rattle.mapping.specs.Held.{liesBefore}
-use Rattle.mapping.proofs.HeldLaws.{parted-none, parted-last, parted-low, parted-high, parted}
 use borrow.Author.Needs.{needs}
+use Rattle.mapping.proofs.HeldLaws.{floor-within, stretch-floor, stretch-next, stretch-none}
 use Rattle.mapping.proofs.extents.first_from.Statement.{statement}
 use Rattle.mapping.proofs.extents.first_from.Tie as tie
 
-abbrev Inv-loop : tie.InvT-loop
-Inv-loop s n object block low₀ high₀ low high = (low ≤ high) × (high ≤ n) × ((j : ℕ) → j < low → liesBefore object block (recordAt decodeExtent extentBytes s j) ≡ true) × ((j : ℕ) → high ≤ j → j < n → liesBefore object block (recordAt decodeExtent extentBytes s j) ≡ false)
+search-extent-requires : tie.Need-search-extent-requires
+search-extent-requires c κs = search needs
 
-abbrev μ-loop : tie.MeasureT-loop
-μ-loop s n object block low₀ high₀ low high = high - low
+enum-known-found : tie.Need-enum-known-found
+enum-known-found c = search needs
 
-loop-holds : tie.Need-loop-holds Inv-loop μ-loop
-loop-holds c = search (parted-none, parted-last, needs)
+lies-before-requires : tie.Need-lies-before-requires
+lies-before-requires c κs =
+    let l = floor-within (c .before .before .before .before .before .pre) (c .before .before .before .search-extent .ensures .1 .0) (c .before .before .before .search-extent .ensures .1 .1) _ (c .before .found .given .1) in
+    omega (arith, l, c .before .before .before .before .before .pre .places)
 
-sub-middle : tie.Need-sub-middle Inv-loop μ-loop
-sub-middle c = search needs
+returns : tie.Need-returns
+returns c = stretch-floor (c .before .before .before .before .before .before .before .pre) (c .before .before .before .before .before .search-extent .ensures .1 .0) (c .before .before .before .before .before .search-extent .ensures .1 .1) _ (c .before .before .before .found .given .1) _ (c .before .lies-before .ensures) (c .if1 .taken)
 
-add-middle : tie.Need-add-middle Inv-loop μ-loop
-add-middle c = search needs
+enum-told : tie.Need-enum-told
+enum-told c = search needs
 
-lies-before-requires : tie.Need-lies-before-requires Inv-loop μ-loop
-lies-before-requires c κs = search needs
+returns-2 : tie.Need-returns-2
+returns-2 c = stretch-next (c .before .before .before .before .before .before .before .pre) (c .before .before .before .before .before .search-extent .ensures .1 .0) (c .before .before .before .before .before .search-extent .ensures .1 .1) _ (c .before .before .before .found .given .1) _ (c .before .lies-before .ensures) (c .if1 .left)
 
-add-low : tie.Need-add-low Inv-loop μ-loop
-add-low c = search needs
-
-loop-less : tie.Need-loop-less Inv-loop μ-loop
-loop-less c = search needs
-
-loop-again : tie.Need-loop-again Inv-loop μ-loop
-loop-again c = (omega arith, omega arith, parted-low (c .before .before .before .before .before .pre) _ _ _ _ (c .before .lies-before .ensures) (omega arith) (c .if1 .taken), c .before .before .before .loop .inv .3)
-
-loop-less-2 : tie.Need-loop-less-2 Inv-loop μ-loop
-loop-less-2 c = search needs
-
-loop-again-2 : tie.Need-loop-again-2 Inv-loop μ-loop
-loop-again-2 c = (omega arith, omega arith, c .before .before .before .loop .inv .2, parted-high (c .before .before .before .before .before .pre) _ _ _ _ (c .before .lies-before .ensures) (c .if1 .left))
-
-returns : tie.Need-returns Inv-loop μ-loop
-returns c = search (parted, needs)
+returns-3 : tie.Need-returns-3
+returns-3 c = stretch-none (c .before .before .before .before .pre) (c .before .before .search-extent .ensures .1 .0) (c .before .before .search-extent .ensures .1 .1) (c .enum-told .given .1)
 
 pub first-from-spec : {M : Type 1} → statement M
 first-from-spec =
     tie.close
     (tie.spec
-    Inv-loop
-    μ-loop
-    loop-holds
-    sub-middle
-    add-middle
+    search-extent-requires
+    enum-known-found
     lies-before-requires
-    add-low
-    loop-less
-    loop-again
-    loop-less-2
-    loop-again-2
-    returns)
+    returns
+    enum-told
+    returns-2
+    returns-3)

@@ -6,6 +6,7 @@ mod plain;
 
 use measure::{pair, speeds, times};
 use probe as proved;
+use std::collections::BTreeMap;
 use std::hint::black_box;
 use std::time::Duration;
 
@@ -28,6 +29,7 @@ fn main() {
     ranges();
     maps();
     book();
+    searches();
     allocation();
 }
 
@@ -205,6 +207,61 @@ fn book() {
         "splice in and out of a 330,000-byte book, copy_within",
         pair(ROUNDS, SPAN, ours, theirs),
     );
+}
+
+/// An extent in books of more and more of them: the search by halves beside plain
+/// Rust's over the same bytes, and beside the ordered map in which the published
+/// Rust keeps its records. The blocks looked for are all over the file, so that no
+/// branch is learnt.
+fn searches() {
+    for count in [10, 100, 1_000, 10_000, 100_000, 1_048_575] {
+        let extent = |i: u64| plain::Extent {
+            object: 7,
+            logical: 3 * i,
+            physical: 2 * i,
+            count: 2,
+        };
+        let book: Vec<u8> = (0..count).flat_map(|i| plain::encode(extent(i))).collect();
+        let map: BTreeMap<[u8; 17], [u8; 16]> = (0..count)
+            .map(|i| plain::encode(extent(i)))
+            .map(|record| (plain::key(&record), record[17..].try_into().unwrap()))
+            .collect();
+        let mut random = random::Rng::new(3);
+        let blocks: Vec<u64> = (0..4_096).map(|_| random.below(3 * count)).collect();
+        let n = count as usize;
+        for &block in &blocks {
+            let place = proved::floor_extent(&book, n, 7, block);
+            assert_eq!(place, plain::floor_extent(&book, 7, block));
+            let theirs = plain::floor_in(&map, 7, block);
+            assert_eq!(place.map(|i| plain::key(&book[33 * i..])), theirs);
+        }
+        let (mut a, mut b) = (blocks.iter().cycle(), blocks.iter().cycle());
+        let ours = || {
+            let block = *a.next().expect("a block");
+            black_box(proved::floor_extent(black_box(&book), n, 7, block));
+        };
+        let theirs = || {
+            let block = *b.next().expect("a block");
+            black_box(plain::floor_extent(black_box(&book), 7, block));
+        };
+        times(
+            &format!("search among {count} extents, and plain Rust's"),
+            pair(ROUNDS, SPAN, ours, theirs),
+        );
+        let (mut a, mut b) = (blocks.iter().cycle(), blocks.iter().cycle());
+        let ours = || {
+            let block = *a.next().expect("a block");
+            black_box(proved::floor_extent(black_box(&book), n, 7, block));
+        };
+        let theirs = || {
+            let block = *b.next().expect("a block");
+            black_box(plain::floor_in(black_box(&map), 7, block));
+        };
+        times(
+            &format!("search among {count} extents, and an ordered map"),
+            pair(ROUNDS, SPAN, ours, theirs),
+        );
+    }
 }
 
 /// The largest store, full but for its last word.

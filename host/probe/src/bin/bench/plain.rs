@@ -1,5 +1,7 @@
 //! The same jobs in plain Rust, written for speed: what the proved functions are held against.
 
+use std::collections::BTreeMap;
+
 /// The generator less x^32, from the low bit up.
 const FEEDBACK: u32 = 0x82f6_3b78;
 
@@ -195,4 +197,39 @@ pub fn extents_ordered(book: &[u8]) -> bool {
         last = next;
     }
     true
+}
+
+/// The bytes of a record that its order goes by.
+pub fn key(record: &[u8]) -> [u8; 17] {
+    record[..17].try_into().unwrap()
+}
+
+/// The place of the last extent of an object at a block or before, by halves.
+pub fn floor_extent(book: &[u8], object: u64, block: u64) -> Option<usize> {
+    let (mut low, mut high) = (0, book.len() / 33);
+    while low < high {
+        let middle = low + (high - low) / 2;
+        let e = decode(&book[33 * middle..33 * middle + 33]);
+        if (e.object, e.logical) <= (object, block) {
+            low = middle + 1;
+        } else {
+            high = middle;
+        }
+    }
+    let last = low.checked_sub(1)?;
+    (decode(&book[33 * last..33 * last + 33]).object == object).then_some(last)
+}
+
+/// The key of the same extent in an ordered map.
+pub fn floor_in(map: &BTreeMap<[u8; 17], [u8; 16]>, object: u64, block: u64) -> Option<[u8; 17]> {
+    let at = |block| {
+        key(&encode(Extent {
+            object,
+            logical: block,
+            physical: 0,
+            count: 0,
+        }))
+    };
+    let (key, _) = map.range(at(0)..=at(block)).next_back()?;
+    Some(*key)
 }

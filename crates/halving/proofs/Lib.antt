@@ -1,0 +1,3 @@
+pub mod HalvingLaws
+pub mod KeyLaws
+pub mod Cases
