@@ -23,7 +23,7 @@ use oracle::{Mounted, compute_checksums_by};
 
 use crate::checksum::by_instruction;
 use crate::measure::{alone, times};
-use crate::stores::{STORES, extents, lend, store};
+use crate::stores::{Extents, STORES, extents, lend, store};
 
 const ROUNDS: u32 = 30;
 const SPAN: Duration = Duration::from_millis(4);
@@ -77,15 +77,20 @@ fn tests_alone(store: &mut Store) -> f64 {
 
 /// Small calls over stores of more and more extents, beside the Rust with the
 /// instruction: what a call costs beside the tests of the store, and what they
-/// cost for each extent. The book of groups has few places, so that what stands
-/// behind its records does not hide the extents.
+/// cost for each extent. The extents stand in front of the file's own, where a
+/// search that walked the book would pass them all; the book of groups has few
+/// places, so that what stands behind its records does not hide the extents.
 fn by_extents() {
     println!(
-        "-- extents in another file, in us: refusals 1 and 2 (ns an extent); ours, Rust's, ratio for each call"
+        "-- so many extents of a file in front; refusals 1 and 2 (ns an extent); small calls and Rust with the instruction"
     );
     let mut few = None;
     for other in [10, 100, 1_000, 10_000, 100_000] {
-        let mut store = store(extents(10, other, 0));
+        let shape = Extents {
+            other_first: true,
+            ..extents(10, other, 0)
+        };
+        let mut store = store(shape);
         let tests = tests_alone(&mut store);
         let (least, from) = *few.get_or_insert((tests, other));
         let each = if other == from {

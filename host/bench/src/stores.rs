@@ -9,20 +9,23 @@ use crate::checksum::by_instruction;
 
 /// The file that is read and written.
 pub const OBJECT: u64 = 7;
-/// The other.
-const OTHER: u64 = 9;
+/// The other, behind it or in front of it in the books.
+const BEHIND: u64 = 9;
+const IN_FRONT: u64 = 5;
 
 const BLOCKS: u64 = 65_536;
 const UNIT_BLOCKS: u64 = 16;
 const UUID: [u8; 16] = [7; 16];
 
-/// How many extents each of the two files has, and places of the book of
-/// groups at least: a place has 1,073 bytes, which every call tests.
+/// How many extents each of the two files has, places of the book of groups at
+/// least (a place has 1,073 bytes, which every call tests), and whether the other
+/// file's records stand in front.
 #[derive(Clone, Copy)]
 pub struct Extents {
     pub file: u64,
     pub other: u64,
     pub group_places: usize,
+    pub other_first: bool,
 }
 
 /// Places of each book at least, the groups' too.
@@ -55,6 +58,7 @@ pub const fn extents(file: u64, other: u64, group_places: usize) -> Extents {
         file,
         other,
         group_places,
+        other_first: false,
     }
 }
 
@@ -89,7 +93,11 @@ pub fn lend(store: &mut Store) -> sangueko::Store<'_> {
 /// extents than blocks, those of the other file share blocks, which refusal 2
 /// lets pass.
 pub fn store(extents: Extents) -> Store {
-    let group_places = extents.group_places;
+    let Extents {
+        group_places,
+        other_first,
+        ..
+    } = extents;
     let mut random = Rng::new(9);
     let share = BLOCKS * 9 / 10;
     let (of_file, of_other) = if extents.other > extents.file {
@@ -126,8 +134,10 @@ pub fn store(extents: Extents) -> Store {
         physical.extend((0..extents.other).map(|n| first + n % file[0]));
     }
 
+    let other_object = if other_first { IN_FRONT } else { BEHIND };
     let mut extents = laid(OBJECT, &file, &physical);
-    extents.extend(laid(OTHER, &other, &physical[file.len()..]));
+    extents.extend(laid(other_object, &other, &physical[file.len()..]));
+    extents.sort_by_key(|extent| (extent.object, extent.logical));
     let card = |object, counts: &[u64]| Card {
         object,
         size: counts.iter().sum::<u64>() * BLOCK_BYTES as u64,
@@ -135,9 +145,11 @@ pub fn store(extents: Extents) -> Store {
         seconds: 1_700_000_000,
         nanoseconds: 0,
     };
-    let cards = vec![card(OBJECT, &file), card(OTHER, &other)];
+    let own = card(OBJECT, &file);
+    let units = own.size / (UNIT_BLOCKS * BLOCK_BYTES as u64);
+    let mut cards = vec![own, card(other_object, &other)];
+    cards.sort_by_key(|card| card.object);
     let places = |records: usize| (2 * records).max(1_024);
-    let units = cards[0].size / (UNIT_BLOCKS * BLOCK_BYTES as u64);
     let groups = units.div_ceil(256);
     let mut store = Store::blank(
         BLOCKS,

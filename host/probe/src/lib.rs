@@ -45,6 +45,26 @@ mod probe {
             object: u64,
             block: u64,
         ) -> u32;
+        pub fn sangueko_probe_first_card(
+            book: *const u8,
+            len: usize,
+            n: usize,
+            object: u64,
+        ) -> usize;
+        pub fn sangueko_probe_first_extent(
+            book: *const u8,
+            len: usize,
+            n: usize,
+            object: u64,
+            logical: u64,
+        ) -> usize;
+        pub fn sangueko_probe_first_group(
+            book: *const u8,
+            len: usize,
+            n: usize,
+            object: u64,
+            number: u64,
+        ) -> usize;
         pub fn sangueko_probe_allocate(
             map: *mut u8,
             map_len: usize,
@@ -136,6 +156,21 @@ pub fn floor_extent(book: &[u8], n: usize, object: u64, block: u64) -> Option<us
 pub fn search_rounds(book: &[u8], n: usize, object: u64, block: u64) -> u32 {
     let (at, len) = (book.as_ptr(), book.len());
     unsafe { probe::sangueko_probe_search_rounds(at, len, n, object, block) }
+}
+
+/// The place of the first of `n` cards whose object is `object` or more.
+pub fn first_card(book: &[u8], n: usize, object: u64) -> usize {
+    unsafe { probe::sangueko_probe_first_card(book.as_ptr(), book.len(), n, object) }
+}
+
+/// The place of the first of `n` extents at or after a key.
+pub fn first_extent(book: &[u8], n: usize, object: u64, logical: u64) -> usize {
+    unsafe { probe::sangueko_probe_first_extent(book.as_ptr(), book.len(), n, object, logical) }
+}
+
+/// The place of the first of `n` groups at or after a key.
+pub fn first_group(book: &[u8], n: usize, object: u64, number: u64) -> usize {
+    unsafe { probe::sangueko_probe_first_group(book.as_ptr(), book.len(), n, object, number) }
 }
 
 /// One call's allocations, unit after unit: a copy of the used map in which

@@ -1,7 +1,8 @@
 //! The search for an object's last extent at or before a block: its answer in
-//! ordered books against a walk through them, and its rounds in any book.
+//! ordered books against a walk through them, and its rounds in any book; and the
+//! place of a key in each of the three books.
 
-use probe::{floor_extent, search_rounds};
+use probe::{first_card, first_extent, first_group, floor_extent, search_rounds};
 use random::Rng;
 
 /// The most extents of a book.
@@ -136,4 +137,48 @@ fn books_out_of_order() {
             assert!(of == object && logical <= block);
         }
     }
+}
+
+#[test]
+fn the_first_at_or_after_a_key() {
+    let mut random = Rng::new(101);
+    for n in 0..200 {
+        let mut keys: Vec<(u64, u64)> = (0..n)
+            .map(|_| (random.below(5), random.below(70)))
+            .collect();
+        keys.sort_unstable();
+        keys.dedup();
+        let extents = book(&keys);
+        let groups: Vec<u8> = keys
+            .iter()
+            .flat_map(|&(object, number)| padded(&record(object, number), 1073, &mut random))
+            .collect();
+        let mut objects: Vec<u64> = keys
+            .iter()
+            .map(|&(object, number)| 100 * object + number)
+            .collect();
+        objects.sort_unstable();
+        objects.dedup();
+        // What follows a card's object is anything.
+        let cards: Vec<u8> = objects
+            .iter()
+            .flat_map(|object| padded(&object.to_be_bytes(), 32, &mut random))
+            .collect();
+        for _ in 0..60 {
+            let key = (random.below(6), random.below(72));
+            let place = keys.partition_point(|&at| at < key);
+            assert_eq!(first_extent(&extents, keys.len(), key.0, key.1), place);
+            assert_eq!(first_group(&groups, keys.len(), key.0, key.1), place);
+            let object = random.below(600);
+            let place = objects.partition_point(|&at| at < object);
+            assert_eq!(first_card(&cards, objects.len(), object), place);
+        }
+    }
+}
+
+/// A record's first bytes, and others up to its width.
+fn padded(first: &[u8], width: usize, random: &mut Rng) -> Vec<u8> {
+    let mut record = first[..first.len().min(17)].to_vec();
+    record.resize_with(width, || random.next_u64() as u8);
+    record
 }

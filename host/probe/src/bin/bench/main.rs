@@ -235,27 +235,24 @@ fn searches() {
             let theirs = plain::floor_in(&map, 7, block);
             assert_eq!(place.map(|i| plain::key(&book[33 * i..])), theirs);
         }
-        let (mut a, mut b) = (blocks.iter().cycle(), blocks.iter().cycle());
+        let next = |random: &mut random::Rng| random.below(3 * count);
+        let (mut a, mut b) = (random::Rng::new(4), random::Rng::new(4));
         let ours = || {
-            let block = *a.next().expect("a block");
-            black_box(proved::floor_extent(black_box(&book), n, 7, block));
+            black_box(proved::floor_extent(black_box(&book), n, 7, next(&mut a)));
         };
         let theirs = || {
-            let block = *b.next().expect("a block");
-            black_box(plain::floor_extent(black_box(&book), 7, block));
+            black_box(plain::floor_extent(black_box(&book), 7, next(&mut b)));
         };
         times(
             &format!("search among {count} extents, and plain Rust's"),
             pair(ROUNDS, SPAN, ours, theirs),
         );
-        let (mut a, mut b) = (blocks.iter().cycle(), blocks.iter().cycle());
+        let (mut a, mut b) = (random::Rng::new(4), random::Rng::new(4));
         let ours = || {
-            let block = *a.next().expect("a block");
-            black_box(proved::floor_extent(black_box(&book), n, 7, block));
+            black_box(proved::floor_extent(black_box(&book), n, 7, next(&mut a)));
         };
         let theirs = || {
-            let block = *b.next().expect("a block");
-            black_box(plain::floor_in(black_box(&map), 7, block));
+            black_box(plain::floor_in(black_box(&map), 7, next(&mut b)));
         };
         times(
             &format!("search among {count} extents, and an ordered map"),

@@ -205,6 +205,7 @@ pub fn key(record: &[u8]) -> [u8; 17] {
 }
 
 /// The place of the last extent of an object at a block or before, by halves.
+#[inline(never)]
 pub fn floor_extent(book: &[u8], object: u64, block: u64) -> Option<usize> {
     let (mut low, mut high) = (0, book.len() / 33);
     while low < high {
@@ -221,6 +222,7 @@ pub fn floor_extent(book: &[u8], object: u64, block: u64) -> Option<usize> {
 }
 
 /// The key of the same extent in an ordered map.
+#[inline(never)]
 pub fn floor_in(map: &BTreeMap<[u8; 17], [u8; 16]>, object: u64, block: u64) -> Option<[u8; 17]> {
     let at = |block| {
         key(&encode(Extent {
