@@ -5,13 +5,12 @@ use mathlib.Core.Bool.{Bool, true, false, not}
 use mathlib.Core.List.{List, [], _∷_, getLast?}
 use mathlib.Core.Option.{Option, none, some}
 use Prim.Native.Nat.{ℕ, zero, suc, _+_, _-_, _*_, _≤_, _<_}
-use native.Mathlib.Decide.{ℕ-discrete}
 use native.Mathlib.Omega.{arith}
 use borrow.Author.Count.{below-more}
-use borrow.Author.Tests.{eq-eqb, ne-eqb, not-true, not-false}
-use lib.Dec.{eqb, leb, ltb}
+use borrow.Author.Tests.{eq-eqb, ne-eqb, not-false}
+use lib.Dec.{eqb}
 use lib.ListN.{length, getD}
-use Rattle.rules.specs.Lists.{if_then_else_, maybe, any, filter, pairBefore}
+use Rattle.rules.specs.Lists.{if_then_else_, maybe, any, filter}
 use Rattle.rules.specs.Bytes.{part}
 use Rattle.rules.specs.Card.{cardBytes, decodeCard}
 use Rattle.rules.specs.Extent.{extentBytes, decodeExtent, covers}
@@ -25,7 +24,7 @@ use Rattle.format.specs.Records.{extentOf}
 use Rattle.halving.specs.Halving.{Parted}
 use Rattle.book.specs.declared.Found.{Found}
 use Rattle.book.specs.declared.Found.the-variants.{At, Nothing}
-use Rattle.book.specs.Places.{recordAt, foundIn, placeOf, firstPlace, lastPlace, leading, FoundFirst, FloorExtent, cardIs, cardUnder, extentUnder, extentUpTo, groupIs, groupUnder}
+use Rattle.book.specs.Places.{recordAt, foundIn, placeOf, firstPlace, lastPlace, leading, FoundFirst, FloorExtent, cardIs, extentUpTo, groupIs}
 
 -- ---- lists
 
@@ -143,14 +142,6 @@ module _ {A : Type 0} (decode : List ℕ → A) (w : ℕ) (s : List ℕ) where
     pub fails-none : Fails f decode w s 0
     fails-none j l = absurd (omega arith)
 
-    -- the same where records pass
-    pub passes-none : Passes f decode w s 0
-    passes-none j l = absurd (omega arith)
-
-    -- the same from the end
-    pub behind-none : (n : ℕ) → FailBehind f decode w n s n
-    behind-none n j l m = absurd (omega arith)
-
     -- one more
     pub fails-more : (i : ℕ) (m : Bool) → Fails f decode w s i → m ≡ f (recordAt decode w s i) → m ≡ false → Fails f decode w s (i + 1)
     fails-more i m h e t = below-more (λ j. f (recordAt decode w s j) ≡ false) i h (sym e ∙ t)
@@ -158,14 +149,6 @@ module _ {A : Type 0} (decode : List ℕ → A) (w : ℕ) (s : List ℕ) where
     -- one more passes
     pub passes-more : (i : ℕ) (m : Bool) → Passes f decode w s i → m ≡ f (recordAt decode w s i) → not m ≡ false → Passes f decode w s (i + 1)
     passes-more i m h e t = below-more (λ j. f (recordAt decode w s j) ≡ true) i h (sym e ∙ not-false m t)
-
-    -- one more from the end
-    pub behind-more : (n i : ℕ) (m : Bool) → FailBehind f decode w n s i → 0 < i → m ≡ f (recordAt decode w s (i - 1)) → m ≡ false → FailBehind f decode w n s (i - 1)
-    behind-more n i m h z e t j l k = go (ℕ-discrete j (i - 1))
-      where
-        go : Dec (j ≡ i - 1) → f (recordAt decode w s j) ≡ false
-        go (yes q) = rw q (sym e ∙ t)
-        go (no q) = h j (omega arith) k
 
     module _ (n : ℕ) where
       -- the first was found
@@ -240,37 +223,10 @@ module _ (s : List ℕ) (i object : ℕ) where
     pub card-is : eqb x object ≡ cardIs object (recordAt decodeCard cardBytes s i)
     card-is = ap (λ (a : ℕ). eqb a object) card-object
 
-    -- and stands before an object if the record does
-    pub card-under : ltb x object ≡ cardUnder object (recordAt decodeCard cardBytes s i)
-    card-under = ap (λ (a : ℕ). ltb a object) card-object
-
-  module _ (x : ℕ) (c : ExtentStruct) (e : extentOf c ≡ decodeExtent (part (33 * i) extentBytes s)) where
-    -- an extent in hand has the key of the record
-    extent-object : c .object ≡ recordAt decodeExtent extentBytes s i .object
-    unfolding recordAt extentOf
-    extent-object = ap (λ r. r .object) e
-
-    -- both numbers of it
-    extent-logical : c .logical ≡ recordAt decodeExtent extentBytes s i .logical
-    unfolding recordAt extentOf
-    extent-logical = ap (λ r. r .logical) e
-
-    -- it maps the same block
-    pub extent-covers : (m : Bool) → m ≡ covers object x (extentOf c) → m ≡ covers object x (recordAt decodeExtent extentBytes s i)
-    unfolding recordAt
-    extent-covers m p = p ∙ ap (covers object x) e
-
-    -- of another file
-    pub extent-other : (c .object ≡ object → ⊥) → false ≡ extentUpTo object x (recordAt decodeExtent extentBytes s i)
-    extent-other n = rw (← extent-object, ne-eqb (c .object) object n) refl
-
-    -- of this one
-    pub extent-up-to : c .object ≡ object → leb (c .logical) x ≡ extentUpTo object x (recordAt decodeExtent extentBytes s i)
-    extent-up-to o = rw (← extent-object, eq-eqb (c .object) object o, ← extent-logical) refl
-
-    -- it stands before a key if the record does
-    pub extent-under : (m : Bool) → m ≡ pairBefore (c .object) (c .logical) object x → m ≡ extentUnder object x (recordAt decodeExtent extentBytes s i)
-    extent-under m p = p ∙ rw (extent-object, extent-logical) refl
+  -- an extent in hand maps the block that the record does
+  pub extent-covers : (x : ℕ) (c : ExtentStruct) → extentOf c ≡ decodeExtent (part (33 * i) extentBytes s) → (m : Bool) → m ≡ covers object x (extentOf c) → m ≡ covers object x (recordAt decodeExtent extentBytes s i)
+  unfolding recordAt
+  extent-covers x c e m p = p ∙ ap (covers object x) e
 
   module _ (x a : ℕ) (e : a ≡ decodeGroup (part (1073 * i) groupBytes s) .object) where
     -- a group of another file
@@ -283,8 +239,3 @@ module _ (s : List ℕ) (i object : ℕ) where
       pub group-is : a ≡ object → eqb b x ≡ groupIs object x (recordAt decodeGroup groupBytes s i)
       unfolding recordAt
       group-is o = rw (← e, eq-eqb a object o, ← f) refl
-
-      -- and before a key
-      pub group-under : (m : Bool) → m ≡ pairBefore a b object x → m ≡ groupUnder object x (recordAt decodeGroup groupBytes s i)
-      unfolding recordAt
-      group-under m p = p ∙ rw (e, f) refl

@@ -1,9 +1,7 @@
 -- Searches by halves, computed.
 -- Assumes nothing.
 use mathlib.Core.Path.{_≡_, refl}
-use mathlib.Core.Bool.{Bool, true, false}
 use mathlib.Core.List.{[], _∷_}
-use Prim.Native.Nat.{ℕ}
 use lib.Dec.{ltb}
 use Rattle.rules.specs.Lists.{if_then_else_}
 use Rattle.halving.specs.Halving.{lookedIn, looked, endsAt}

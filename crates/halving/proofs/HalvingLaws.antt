@@ -5,7 +5,7 @@ use mathlib.Core.Path.{_≡_, refl, sym, ap, _∙_}
 use mathlib.Core.Bool.{Bool, true, false}
 use mathlib.Core.List.{List, [], _∷_}
 use Prim.Native.Nat.{ℕ, zero, suc, _+_, _-_, _*_, _/_, _^_, _≤_, _<_}
-use native.Mathlib.Decide.{ℕ-discrete, decLt}
+use native.Mathlib.Decide.{ℕ-discrete}
 use native.Mathlib.Nat.{pow-suc, mul-comm, one-le-pow}
 use native.Mathlib.Omega.{arith}
 use borrow.Author.Tests.{eqb-true, eqb-false, eq-eqb, ne-eqb}
@@ -13,7 +13,7 @@ use lib.Dec.{eqb}
 use lib.ListN.{length}
 use Rattle.rules.specs.Lists.{if_then_else_}
 use Rattle.rules.specs.Sizes.{mostPlaces}
-use Rattle.rules.proofs.ListLaws.{if-true, if-false, if-cases, test-cases, clash, Each, each-none, each-more}
+use Rattle.rules.proofs.ListLaws.{if-true, if-false, if-cases, test-cases, clash, Each, each-more}
 use Rattle.halving.specs.Halving.{lookedIn, looked, endsAt, Parted}
 
 -- ---- one round

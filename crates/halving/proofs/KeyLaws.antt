@@ -1,6 +1,6 @@
 -- Laws of one look at a record's key, in the shape in which the code makes it, and of the object that is remembered.
 -- Assumes nothing.
-use mathlib.Core.Path.{_≡_, refl, sym, ap, _∙_}
+use mathlib.Core.Path.{_≡_, refl, sym, _∙_}
 use mathlib.Core.Bool.{Bool, true, false, not, _&&_, _||_}
 use mathlib.Core.List.{List}
 use Prim.Native.Nat.{ℕ, suc, _+_, _-_, _*_, _/_, _^_, _≤_, _<_}
@@ -8,7 +8,6 @@ use native.Mathlib.Nat.{mul-suc, mul-le-mul-left}
 use native.Mathlib.Omega.{arith}
 use borrow.Author.Tests.{eqb-true, eq-eqb, ne-eqb, le-ltb}
 use lib.Dec.{eqb, ltb}
-use lib.ListN.{length}
 use Rattle.rules.specs.Bytes.{be, part}
 use Rattle.rules.specs.Lists.{pairBefore}
 use Rattle.rules.proofs.ListLaws.{and-left, and-right, or-cases, or-left, pairBefore-trans}

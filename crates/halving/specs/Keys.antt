@@ -1,7 +1,7 @@
 -- The keys of a book's records, over the width of a record: an object and a number, each 8 bytes big-endian, with a byte between them. Extents and groups
 -- begin with one. A card begins with its object: held against a number of 0, what stands at the place of its number does not matter.
 -- Assumes nothing.
-use mathlib.Core.Bool.{Bool, false, _&&_, _||_, not}
+use mathlib.Core.Bool.{Bool, _&&_, _||_, not}
 use mathlib.Core.List.{List}
 use Prim.Native.Nat.{ℕ, _+_, _-_, _*_}
 use lib.Dec.{eqb}

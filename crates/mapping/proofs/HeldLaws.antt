@@ -11,7 +11,7 @@ use borrow.Author.Tests.{eq-eqb, ne-eqb, not-true, not-false, ltb-true, lt-ltb, 
 use lib.Dec.{eqb, ltb, leb}
 use lib.ListN.{length, getD, set, take}
 use lib.Seq.{getD-set-same, getD-set-other}
-use Rattle.rules.specs.Lists.{if_then_else_, range, ascending, pairBefore}
+use Rattle.rules.specs.Lists.{range, ascending, pairBefore}
 use Rattle.rules.specs.Bytes.{part}
 use Rattle.rules.specs.Sizes.{mostBlocks}
 use Rattle.rules.specs.Extent.{Extent, extentBytes, decodeExtent, extentBefore, extentEnd, covers, blockOf, mapping}

@@ -2,6 +2,8 @@
 //! ordered books against a walk through them, and its rounds in any book; and the
 //! place of a key in each of the three books.
 
+use std::collections::BTreeSet;
+
 use probe::{first_card, first_extent, first_group, floor_extent, search_rounds};
 use random::Rng;
 
@@ -20,6 +22,13 @@ fn record(object: u64, logical: u64) -> [u8; 33] {
 fn book(keys: &[(u64, u64)]) -> Vec<u8> {
     keys.iter()
         .flat_map(|&(object, logical)| record(object, logical))
+        .collect()
+}
+
+/// At most `n` of what is drawn, in order and each once.
+fn ascending<T: Ord>(n: usize, draw: impl FnMut() -> T) -> Vec<T> {
+    BTreeSet::from_iter(std::iter::repeat_with(draw).take(n))
+        .into_iter()
         .collect()
 }
 
@@ -99,11 +108,7 @@ fn the_floor_is_of_the_object() {
 fn ordered_books_of_every_length() {
     let mut random = Rng::new(203);
     for n in 0..400 {
-        let mut keys: Vec<(u64, u64)> = (0..n)
-            .map(|_| (random.below(6), random.below(90)))
-            .collect();
-        keys.sort_unstable();
-        keys.dedup();
+        let keys = ascending(n, || (random.below(6), random.below(90)));
         let book = book(&keys);
         for _ in 0..60 {
             let (object, block) = (random.below(7), random.below(92));
@@ -143,22 +148,13 @@ fn books_out_of_order() {
 fn the_first_at_or_after_a_key() {
     let mut random = Rng::new(101);
     for n in 0..200 {
-        let mut keys: Vec<(u64, u64)> = (0..n)
-            .map(|_| (random.below(5), random.below(70)))
-            .collect();
-        keys.sort_unstable();
-        keys.dedup();
+        let keys = ascending(n, || (random.below(5), random.below(70)));
         let extents = book(&keys);
         let groups: Vec<u8> = keys
             .iter()
             .flat_map(|&(object, number)| padded(&record(object, number), 1073, &mut random))
             .collect();
-        let mut objects: Vec<u64> = keys
-            .iter()
-            .map(|&(object, number)| 100 * object + number)
-            .collect();
-        objects.sort_unstable();
-        objects.dedup();
+        let objects = ascending(n, || random.below(600));
         // What follows a card's object is anything.
         let cards: Vec<u8> = objects
             .iter()

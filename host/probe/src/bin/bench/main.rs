@@ -235,29 +235,21 @@ fn searches() {
             let theirs = plain::floor_in(&map, 7, block);
             assert_eq!(place.map(|i| plain::key(&book[33 * i..])), theirs);
         }
-        let next = |random: &mut random::Rng| random.below(3 * count);
-        let (mut a, mut b) = (random::Rng::new(4), random::Rng::new(4));
-        let ours = || {
-            black_box(proved::floor_extent(black_box(&book), n, 7, next(&mut a)));
+        let beside = |with: &str, theirs: &dyn Fn(u64)| {
+            let next = |random: &mut random::Rng| random.below(3 * count);
+            let (mut a, mut b) = (random::Rng::new(4), random::Rng::new(4));
+            let ours = || {
+                black_box(proved::floor_extent(black_box(&book), n, 7, next(&mut a)));
+            };
+            let best = pair(ROUNDS, SPAN, ours, || theirs(next(&mut b)));
+            times(&format!("search among {count} extents, and {with}"), best);
         };
-        let theirs = || {
-            black_box(plain::floor_extent(black_box(&book), 7, next(&mut b)));
-        };
-        times(
-            &format!("search among {count} extents, and plain Rust's"),
-            pair(ROUNDS, SPAN, ours, theirs),
-        );
-        let (mut a, mut b) = (random::Rng::new(4), random::Rng::new(4));
-        let ours = || {
-            black_box(proved::floor_extent(black_box(&book), n, 7, next(&mut a)));
-        };
-        let theirs = || {
-            black_box(plain::floor_in(black_box(&map), 7, next(&mut b)));
-        };
-        times(
-            &format!("search among {count} extents, and an ordered map"),
-            pair(ROUNDS, SPAN, ours, theirs),
-        );
+        beside("plain Rust's", &|block| {
+            black_box(plain::floor_extent(black_box(&book), 7, block));
+        });
+        beside("an ordered map", &|block| {
+            black_box(plain::floor_in(black_box(&map), 7, block));
+        });
     }
 }
 
