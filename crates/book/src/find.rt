@@ -1,5 +1,5 @@
-// Searches in the three books. Those that ask for an order's place go by halves (`halving`); those that promise the first record of any book, ordered or
-// not, scan it.
+// Searches in the three books. Those for a place in the order of the keys go by halves (`halving`); those that promise the first record of any book, ordered
+// or not, scan it.
 ghost use mathlib.Core.Path.{_≡_};
 ghost use mathlib.Core.Bool.{true};
 ghost use Prim.Native.Nat.{_+_, _*_, _≤_, _<_};
@@ -67,7 +67,7 @@ pub fn find_group(s: &[u8], n: usize, object: u64, number: u64) -> Found
     Found::Nothing
 }
 
-// What a search for a floor found, how many extents it puts before the key or at it, and in how many rounds.
+// What a search for a floor found, how many extents it puts before the key of object and block or at it, and in how many rounds.
 pub struct Searched {
     pub found: Found,
     pub place: usize,
@@ -94,7 +94,7 @@ pub fn search_extent(s: &[u8], n: usize, object: u64, block: u64) -> Searched
     }
 }
 
-// The same with nothing beside it.
+// The floor alone.
 pub fn floor_extent(s: &[u8], n: usize, object: u64, block: u64) -> Found
     requires { ⌜ extentBytes * n ≤ length (now s) ⌝ }
     requires { ⌜ n ≤ mostPlaces ⌝ }
@@ -127,7 +127,8 @@ pub fn covering(s: &[u8], n: usize, object: u64, block: u64) -> Found
     Found::Nothing
 }
 
-// The place of the first card whose object is `object` or more, or `n`.
+// The place of the first card whose object is `object` or more, or `n`. A card has no number in its key: against 0, under which nothing stands, the bytes at
+// that place do not count.
 pub fn first_card(s: &[u8], n: usize, object: u64) -> usize
     requires { ⌜ cardBytes * n ≤ length (now s) ⌝ }
     ensures { λ r. ⌜ (ascending cardBefore (decodeBook decodeCard cardBytes n (now (s .entry))) ≡ true → r ≡ leading (cardUnder object) (decodeBook decodeCard cardBytes n (now (s .entry)))) × (r ≤ n) ⌝ }

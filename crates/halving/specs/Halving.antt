@@ -1,5 +1,5 @@
--- A search by halves: which places it looks at, and where it ends. It knows the records only by a test of single places, so that all of this is said
--- of any book, ordered or not.
+-- A search by halves (binary search): which places it looks at, and where it ends. It knows the records only by a test of single places, so that all of
+-- this is said of any book, ordered or not.
 -- Assumes nothing.
 use mathlib.Core.Path.{_≡_}
 use mathlib.Core.Bool.{Bool, true, false}

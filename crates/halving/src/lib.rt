@@ -1,6 +1,6 @@
-// The search by halves in a book of records that begin with a key. In each round it looks at the one record in the middle of what is left, and that
-// record leaves the range: of n places at most half are left, so that the 1,048,575 that a book may have take at most 20 rounds. The object is tested
-// with the key, so that nothing is looked at again in the end. All of this holds for any book; what the answer means, for ordered ones.
+// The search by halves (binary search) in a book of records that begin with a key. In each round it looks at the one record in the middle of what is left,
+// and that record leaves the range: of n places at most half are left, so that the 1,048,575 that a book may have take at most 20 rounds. The object is
+// tested with the key, so that nothing is looked at again in the end. All of this holds for any book; what the answer means, for ordered ones.
 ghost use mathlib.Core.Path.{_≡_};
 ghost use Prim.Native.Nat.{_+_, _*_, _≤_};
 ghost use lib.Dec.{eqb};
