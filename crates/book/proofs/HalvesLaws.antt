@@ -21,10 +21,11 @@ use Rattle.rules.proofs.ListLaws.{if-true, if-false, test-cases, clash, and-lef
 use Rattle.rules.proofs.ByteLaws.{part-part}
 use Rattle.rules.proofs.BookLaws.{length-decodeBook}
 use Rattle.format.proofs.CardWords.{object-read}
+use Rattle.format.proofs.SlotLaws.{group-object as object-of-group, group-number as number-of-group}
 use Rattle.halving.specs.Halving.{looked, endsAt, Parted}
 use Rattle.halving.specs.Keys.{reaches, objectAt, numberAt, reached, ownedBefore}
 use Rattle.halving.proofs.HalvingLaws.{Falls, parted, parted-as, ends-within, looked-same, ends-same, ends-each}
-use Rattle.halving.proofs.KeyLaws.{falls-ordered}
+use Rattle.halving.proofs.KeyLaws.{or-none, falls-ordered}
 use Rattle.book.specs.declared.Found.{Found}
 use Rattle.book.specs.declared.Found.the-variants.{At, Nothing}
 use Rattle.book.specs.Places.{recordAt, placeOf, leading, FloorExtent, cardUnder, extentUnder, extentUpTo, extentReached, reachedAt, ownBefore, SearchedBook, groupUnder}
@@ -45,13 +46,13 @@ module _ (s : List ℕ) (i : ℕ) where
 
   -- the same of a group
   group-object : recordAt decodeGroup groupBytes s i .object ≡ objectAt groupBytes s i
-  unfolding recordAt decodeGroup objectAt
-  group-object = ap be (part-part s (1073 * i) 1073 0 8 (omega arith) ∙ ap (λ (k : ℕ). part k 8 s) (add-zero (1073 * i)))
+  unfolding recordAt objectAt
+  group-object = sym (object-of-group s (1073 * i) (be (part (1073 * i) 8 s)) refl)
 
   -- both numbers of it
   group-number : recordAt decodeGroup groupBytes s i .number ≡ numberAt groupBytes s i
-  unfolding recordAt decodeGroup numberAt
-  group-number = ap be (part-part s (1073 * i) 1073 9 8 (omega arith))
+  unfolding recordAt numberAt
+  group-number = sym (number-of-group s (1073 * i) (be (part (1073 * i + 9) 8 s)) refl)
 
   -- the object of a card, where its bytes are bytes
   card-object : Bytes s → 32 * i + 32 ≤ length s → recordAt decodeCard cardBytes s i .object ≡ objectAt cardBytes s i
@@ -59,11 +60,6 @@ module _ (s : List ℕ) (i : ℕ) where
   card-object b l = sym (object-read s (32 * i) b l (be (part (32 * i) 8 s)) refl)
 
 -- ---- tests of a record
-
--- a test or none
-or-none : (x : Bool) → (x || false) ≡ x
-or-none true = refl
-or-none false = refl
 
 module _ (s : List ℕ) (object number i : ℕ) where
   -- the key of an extent is reached where the extent is

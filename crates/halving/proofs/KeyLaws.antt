@@ -18,7 +18,7 @@ use Rattle.halving.proofs.HalvingLaws.{Falls, falls-steps}
 -- ---- one look
 
 -- a test or none
-or-none : (x : Bool) → (x || false) ≡ x
+pub or-none : (x : Bool) → (x || false) ≡ x
 or-none true = refl
 or-none false = refl
 

@@ -11,7 +11,7 @@
 use std::hint::black_box;
 use std::time::{Duration, Instant};
 
-use model::{Store, Time, UNIT_BYTES};
+use model::{Store, Time, UNIT_BYTES, Volume};
 use oracle::{Kept, Mounted, compute_checksums_by};
 use random::Rng;
 use sangueko::Refusal;
@@ -190,7 +190,9 @@ fn prepared<'a>(
     mounted: &mut Mounted,
 ) -> Vec<Call<'a>> {
     let Job::Write { length, within } = shape.job else {
-        let size = model::Card::decode(&store.cards).size;
+        let cards = Volume::decode(store).cards;
+        let own = cards.iter().find(|card| card.object == OBJECT);
+        let size = own.expect("a card").size;
         let tail = Call {
             at: size,
             bytes: Some(&bytes[..TAIL]),

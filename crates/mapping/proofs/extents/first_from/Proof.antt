@@ -18,13 +18,13 @@ lies-before-requires c κs =
     omega (arith, l, c .before .before .before .before .before .pre .places)
 
 returns : tie.Need-returns
-returns c = stretch-floor (c .before .before .before .before .before .before .before .pre) (c .before .before .before .before .before .search-extent .ensures .1 .0) (c .before .before .before .before .before .search-extent .ensures .1 .1) _ (c .before .before .before .found .given .1) _ (c .before .lies-before .ensures) (c .if1 .taken)
+returns c = search (stretch-floor (c .before .before .before .before .before .before .before .pre) (c .before .before .before .before .before .search-extent .ensures .1 .0) (c .before .before .before .before .before .search-extent .ensures .1 .1) _ (c .before .before .before .found .given .1) _ (c .before .lies-before .ensures), stretch-next (c .before .before .before .before .before .before .before .pre) (c .before .before .before .before .before .search-extent .ensures .1 .0) (c .before .before .before .before .before .search-extent .ensures .1 .1) _ (c .before .before .before .found .given .1) _ (c .before .lies-before .ensures), needs)
 
 enum-told : tie.Need-enum-told
 enum-told c = search needs
 
 returns-2 : tie.Need-returns-2
-returns-2 c = stretch-next (c .before .before .before .before .before .before .before .pre) (c .before .before .before .before .before .search-extent .ensures .1 .0) (c .before .before .before .before .before .search-extent .ensures .1 .1) _ (c .before .before .before .found .given .1) _ (c .before .lies-before .ensures) (c .if1 .left)
+returns-2 c = search (stretch-floor (c .before .before .before .before .before .before .before .pre) (c .before .before .before .before .before .search-extent .ensures .1 .0) (c .before .before .before .before .before .search-extent .ensures .1 .1) _ (c .before .before .before .found .given .1) _ (c .before .lies-before .ensures), stretch-next (c .before .before .before .before .before .before .before .pre) (c .before .before .before .before .before .search-extent .ensures .1 .0) (c .before .before .before .before .before .search-extent .ensures .1 .1) _ (c .before .before .before .found .given .1) _ (c .before .lies-before .ensures), needs)
 
 returns-3 : tie.Need-returns-3
 returns-3 c = stretch-none (c .before .before .before .before .pre) (c .before .before .search-extent .ensures .1 .0) (c .before .before .search-extent .ensures .1 .1) (c .enum-told .given .1)

@@ -211,8 +211,8 @@ fn book() {
 
 /// An extent in books of more and more of them: the search by halves beside plain
 /// Rust's over the same bytes, and beside the ordered map in which the published
-/// Rust keeps its records. The blocks looked for are all over the file, so that no
-/// branch is learnt.
+/// Rust keeps its records. A block is drawn anew for each search, so that no branch
+/// is learnt.
 fn searches() {
     for count in [10, 100, 1_000, 10_000, 100_000, 1_048_575] {
         let extent = |i: u64| plain::Extent {
