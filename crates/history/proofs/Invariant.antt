@@ -26,17 +26,21 @@ use Rattle.rules.specs.Settle.{settled}
 use Rattle.rules.specs.Call.{Look, Call, InRange, call}
 use Rattle.rules.specs.Call.Look.{read, readMany, fill}
 use Rattle.rules.specs.Call.Call.{fresh, enter, write, grow, settle, look}
-use Rattle.rules.specs.Plain.{File, accepted, fileBytes}
-use Rattle.rules.specs.Demand.{givenReserved, placesOf, places, holders, filePlaces, neverNumbers, Sound, Demand3}
+use Rattle.rules.specs.Act.{Act, ActInRange, act, actRefused, partsDone}
+use Rattle.rules.specs.Act.Act.{whole, batch}
+use Rattle.rules.specs.Plain.{File, accepted, actStep, fileBytes}
+use Rattle.rules.specs.Demand.{givenReserved, actReserved, placesOf, places, holders, filePlaces, neverNumbers, Sound, Demand3}
 use Rattle.rules.proofs.ListLaws.{given-some, maybe-some, find-yes, find-no, find-none}
 use Rattle.rules.proofs.PassLaws.{Passes, Lawful, Says, lawful-decode, room-decode}
 use Rattle.rules.proofs.FreshLaws.{fresh-says}
 use Rattle.rules.proofs.EnterLaws.{NoCard, card-entered, card-other, enter-accepted, enter-says}
 use Rattle.rules.proofs.SettleLaws.{settle-says, look-stays}
+use Rattle.rules.proofs.BatchLaws.{accepted-number}
 use Rattle.history.proofs.HistoryLaws.{Never, demand3-from, never-fresh, never-enter, settle-number, fill-number, fresh-holders}
 use Rattle.history.proofs.HolderLaws.{SameFiles, inspect-same, files-entered, holders-settled, holders-entered, counts-entered}
 use Rattle.history.proofs.ReadLaws.{ObjectIs, AllKnown, read-plain, read-never}
 use Rattle.history.proofs.ReadManyLaws.{many-plain, many-never}
+use Rattle.history.proofs.BatchHistory.{batch-keeps, batch-never}
 
 -- a unit at or past the end of its file, or of no file
 abbrev pub Past : Volume → ℕ → ℕ → Type 0
@@ -264,6 +268,28 @@ module _ (w : ChangesRight) where
   never-refused files reserved s b h settle i = ap (λ n. member n neverNumbers) (settle-number s (h .passes))
   never-refused files reserved s b h (look l) i = never-look files reserved s h l
 
+  -- of a batch's writes: as calls
+  write-kept : (object offset : ℕ) (bytes : List ℕ) (time : Time) (files : List File) (reserved : ℕ) (s : Store)
+      → InRange (write object offset bytes time) → StoreBytes s → call (write object offset bytes time) s .number ≡ 0 → Inv files reserved s
+      → Inv (accepted (write object offset bytes time) files) reserved (call (write object offset bytes time) s .store)
+  unfolding givenReserved
+  write-kept object offset bytes time = keeps (write object offset bytes time)
+
+  -- every act that is not refused keeps it
+  acts-keep : (a : Act) (files : List File) (reserved : ℕ) (s : Store) → ActInRange a → StoreBytes s → actRefused a s ≡ false → Inv files reserved s
+      → Inv (actStep a (partsDone a s) files) (actReserved a reserved) (act a s .store)
+  unfolding act actRefused actStep actReserved
+  acts-keep (whole c) files reserved s i b f h = keeps c files reserved s i b (accepted-number (call c s) f) h
+  acts-keep (batch list bytes time) files reserved s i b f h = batch-keeps Inv write-kept list bytes time files reserved s i b f h
+
+  -- and none is refused or stopped with "2, 9 to 12 and 14"
+  never-stopped : (files : List File) (reserved : ℕ) (s : Store) → StoreBytes s → Inv files reserved s → (a : Act) → ActInRange a → member (act a s .number) neverNumbers ≡ false
+  unfolding act
+  never-stopped files reserved s b h (whole c) i = never-refused files reserved s b h c i
+  never-stopped files reserved s b h (batch list bytes time) i =
+      batch-never Inv write-kept (λ object offset bytes time files reserved s i b h. never-refused files reserved s b h (write object offset bytes time) i)
+      list bytes time files reserved s (h .passes) i b h
+
   -- the claim
   sound : (files : List File) (reserved : ℕ) (s : Store) → StoreBytes s → Inv files reserved s → Sound files reserved s
   sound files reserved s b h = record {
@@ -271,9 +297,9 @@ module _ (w : ChangesRight) where
     readsMany = λ list out i e. many-plain files s (all-known files reserved s h) (h .passes) list out e;
     onePlace = λ b l. h .blocksAgree .onePlace b (rw (room-decode s (h .passes) .blocks) l);
     counts = h .filesAgree .counts;
-    never = never-refused files reserved s b h;
+    never = never-stopped files reserved s b h;
   }
 
   -- demand 3, from what is left of write and grow
   pub demand3-from-changes : Demand3
-  demand3-from-changes = demand3-from Inv keeps inv-fresh sound
+  demand3-from-changes = demand3-from Inv acts-keep inv-fresh sound

@@ -2,12 +2,13 @@
 --
 --   Demand3            the theorem
 --   Induction          what every act on a store keeps holds after a list of them, whatever the acts are
---   HistoryLaws        that induction for the calls: a refused one leaves the store and tells the plain arrays nothing
+--   HistoryLaws        that induction for the calls and for batches of writes: a refused one leaves the store and tells the plain arrays nothing
 --   Invariant          what every accepted call keeps, in two records (of the files; of the blocks), and demand 3's claim from it. Fresh, enter,
 --                      settle and the calls that leave the store are shown here, with
 --   HolderLaws         what enter and settle do to the holders of blocks and to the places of files
 --   ReadLaws           a read from its units: each unit, read, is what the plain array has there
 --   ReadManyLaws       many reads in one call, from that law of one read
+--   BatchHistory       a batch of writes, from what holds of each write
 --   Changes            write and grow, which `Invariant` leaves as a premise. An accepted one has a plan (FileCallLaws); then come
 --
 -- What the plan says:
@@ -35,6 +36,7 @@ pub mod Invariant
 pub mod HolderLaws
 pub mod ReadLaws
 pub mod ReadManyLaws
+pub mod BatchHistory
 pub mod Changes
 pub mod FileCallLaws
 pub mod ChangeLaws

@@ -5,9 +5,8 @@ use mathlib.Core.List.{List, [], _∷_, _++_}
 use Prim.Native.Nat.{ℕ}
 use lib.ListN.{replicate}
 use Rattle.rules.specs.Store.{Store}
-use Rattle.rules.specs.Call.{Call, call}
+use Rattle.rules.specs.Call.{Call, call, run}
 use Rattle.rules.specs.Call.Call.{fresh, enter, write, grow, settle}
-use Rattle.rules.specs.Demand.{run}
 use Rattle.volume.specs.Call.{gave}
 use Rattle.layout.specs.Calls.{moment, beginning, writes, grows, layoutCalls}
 

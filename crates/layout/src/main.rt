@@ -8,7 +8,7 @@ ghost use Prim.Native.Nat.{_*_, _≤_};
 ghost use lib.ListN.{length};
 ghost use Rattle.rules.specs.Extent.{extentBytes};
 ghost use Rattle.rules.specs.Store.{lent};
-ghost use Rattle.rules.specs.Demand.{run};
+ghost use Rattle.rules.specs.Call.{run};
 ghost use Rattle.layout.specs.Calls.{beginning, writes, grows, layoutCalls};
 use format::extent::EXTENT_BYTES;
 use format::extent::Extent;

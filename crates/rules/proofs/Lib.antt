@@ -29,4 +29,6 @@ pub mod CountLaws
 pub mod AllocationLaws
 pub mod KeptLaws
 pub mod BytesKept
+pub mod BatchLaws
+pub mod BatchAnswers
 pub mod StoreAfter

@@ -7,7 +7,7 @@ use Prim.Native.Nat.{ℕ, _≤_}
 use native.Mathlib.Omega.{arith}
 use Rattle.rules.specs.Store.{Store}
 use Rattle.rules.specs.Refusal.{Refusal, Outcome, Result, numberOf, result}
-use Rattle.rules.specs.Refusal.Refusal.{wrong-length, broken-rule, no-card, card-exists, past-limit, below-size, bad-time, no-card-place, no-checksum, not-backed, nonzero-past-end, checksum-differs, no-space, count-disagrees, no-group-place, no-extent-place, bad-reads}
+use Rattle.rules.specs.Refusal.Refusal.{wrong-length, broken-rule, no-card, card-exists, past-limit, below-size, bad-time, no-card-place, no-checksum, not-backed, nonzero-past-end, checksum-differs, no-space, count-disagrees, no-group-place, no-extent-place, bad-reads, bad-batch}
 use Rattle.rules.specs.Refusal.Outcome.{refuse, accept}
 use Rattle.rules.specs.Call.{Call, call}
 use Rattle.rules.specs.Call.Look.{read, readMany, fill}
@@ -16,7 +16,7 @@ use Rattle.rules.specs.Call.Call.{fresh, enter, write, grow, settle, loo
 -- document 01's numbers are 1 to 16, and document 02's go on from there
 pub record Numbered (n : ℕ) : Type 0 where
   pub least : 1 ≤ n
-  pub most : n ≤ 17
+  pub most : n ≤ 18
 
 pub numbered : (r : Refusal) → Numbered (numberOf r)
 unfolding numberOf
@@ -37,6 +37,7 @@ numbered count-disagrees = record { least = omega arith; most = omega arith }
 numbered no-group-place = record { least = omega arith; most = omega arith }
 numbered no-extent-place = record { least = omega arith; most = omega arith }
 numbered bad-reads = record { least = omega arith; most = omega arith }
+numbered bad-batch = record { least = omega arith; most = omega arith }
 
 -- a refused call: its number is one of the documents', its count 0, and the store and the output buffer are those lent
 pub record Unchanged (s : Store) (out : List ℕ) (r : Result) : Type 0 where

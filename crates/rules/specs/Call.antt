@@ -1,6 +1,6 @@
 -- The public calls as one type: each with its arguments and without the store's buffers.
 -- Assumes nothing.
-use mathlib.Core.List.{List, []}
+use mathlib.Core.List.{List, [], _∷_}
 use Prim.Native.Nat.{ℕ, _<_, _^_}
 use Rattle.rules.specs.Sizes.{mostRuns}
 use Rattle.rules.specs.Bytes.{Bytes}
@@ -62,3 +62,8 @@ call settle s = result s [] (settleOutcome s)
 call (look (read object offset out)) s = result s out (readOutcome object offset out s)
 call (look (readMany list out)) s = result s out (readManyOutcome list out s)
 call (look fill) s = result s [] (fillOutcome s)
+
+-- the store after the calls
+unfoldable pub run : List Call → Store → Store
+run [] s = s
+run (c ∷ cs) s = run cs (call c s .store)

@@ -1,8 +1,8 @@
--- Document 01, "Demand 3": a single claim about every list of calls on a store that fresh made. Stated here, proved in the crate `history`.
+-- Document 01, "Demand 3": a single claim about every list of calls on a store that fresh made, batches of writes among them. Stated here, proved in the crate `history`.
 -- Assumes nothing.
 use mathlib.Core.Path.{_≡_}
 use mathlib.Core.List.{List, [], _∷_, _++_, map, flatMap, List·Memᴰ}
-use mathlib.Core.Bool.{Bool, false, not}
+use mathlib.Core.Bool.{false}
 use mathlib.Core.Option.{some}
 use Prim.Native.Nat.{ℕ, _+_, _<_}
 use lib.Dec.{eqb, ltb}
@@ -17,23 +17,21 @@ use Rattle.rules.specs.ReadMany.{different}
 use Rattle.rules.specs.Call.{Call, InRange, call}
 use Rattle.rules.specs.Call.Look.{read, readMany}
 use Rattle.rules.specs.Call.Call.{fresh, enter, write, grow, settle, look}
+use Rattle.rules.specs.Act.{Act, ActInRange, act, actRefused, partsDone}
+use Rattle.rules.specs.Act.Act.{whole, batch}
 use Rattle.rules.specs.Plain.{Fed, File, plain, fileBytes, plainRead, plainMany, plainPairs}
 
 -- ---- a list of calls
 
--- the store after the calls
-unfoldable pub run : List Call → Store → Store
-run [] s = s
-run (c ∷ cs) s = run cs (call c s .store)
+-- the store after the acts
+unfoldable pub afterActs : List Act → Store → Store
+afterActs [] s = s
+afterActs (a ∷ acts) s = afterActs acts (act a s .store)
 
--- a call was refused
-unfoldable pub wasRefused : Result → Bool
-wasRefused r = not (eqb (r .number) 0)
-
--- what the plain arrays are fed of the calls
-unfoldable pub fed : List Call → Store → List Fed
+-- what the plain arrays are fed of them
+unfoldable pub fed : List Act → Store → List Fed
 fed [] s = []
-fed (c ∷ cs) s = record { call = c; refused = wasRefused (call c s) } ∷ fed cs (call c s .store)
+fed (a ∷ acts) s = record { act = a; refused = actRefused a s; done = partsDone a s } ∷ fed acts (act a s .store)
 
 -- the number that a fresh gives
 unfoldable pub givenReserved : Call → ℕ → ℕ
@@ -44,15 +42,20 @@ givenReserved (grow object size time) n = n
 givenReserved settle n = n
 givenReserved (look l) n = n
 
+-- a batch gives none
+unfoldable pub actReserved : Act → ℕ → ℕ
+actReserved (whole c) n = givenReserved c n
+actReserved (batch list bytes time) n = n
+
 -- "the number given to the last accepted fresh", n before these calls
 unfoldable pub lastReserved : List Fed → ℕ → ℕ
 lastReserved [] n = n
-lastReserved (f ∷ fs) n = lastReserved fs (if f .refused then n else givenReserved (f .call) n)
+lastReserved (f ∷ fs) n = lastReserved fs (if f .refused then n else actReserved (f .act) n)
 
--- every call of the list is in range
-pub data AllInRange : List Call → Type 0 where
+-- every act of the list is in range
+pub data AllInRange : List Act → Type 0 where
   none : AllInRange []
-  one : {c : Call} {cs : List Call} → InRange c → AllInRange cs → AllInRange (c ∷ cs)
+  one : {a : Act} {acts : List Act} → ActInRange a → AllInRange acts → AllInRange (a ∷ acts)
 
 -- ---- places
 
@@ -114,16 +117,16 @@ pub record Sound (files : List File) (reserved : ℕ) (s : Store) : Type 0 where
   pub onePlace : (b : ℕ) → b < imageBlocks s → holders reserved (decode s) b ≡ 1
   -- "card counts are right": each card's allocated blocks are the places of its file
   pub counts : (c : Card) → List·Memᴰ c (decode s .books .cards) → c .allocated ≡ filePlaces (decode s) (c .object)
-  -- "refusals 2, 9 to 12 and 14 never come": not to any call that could be the next
-  pub never : (c : Call) → InRange c → member (call c s .number) neverNumbers ≡ false
+  -- "refusals 2, 9 to 12 and 14 never come": not to any call that could be the next, and no batch is stopped by one of them
+  pub never : (a : Act) → ActInRange a → member (act a s .number) neverNumbers ≡ false
 
 -- demand 3: for every store of bytes, every fresh accepted on it, and every list of calls
 abbrev pub Demand3 : Type 0
 Demand3 =
     (s : Store) → StoreBytes s
     → (uuid : List ℕ) (reserved : ℕ) → InRange (fresh uuid reserved) → call (fresh uuid reserved) s .number ≡ 0
-    → (cs : List Call) → AllInRange cs
+    → (acts : List Act) → AllInRange acts
     → Sound
-    (plain (fed cs (call (fresh uuid reserved) s .store)) [])
-    (lastReserved (fed cs (call (fresh uuid reserved) s .store)) reserved)
-    (run cs (call (fresh uuid reserved) s .store))
+    (plain (fed acts (call (fresh uuid reserved) s .store)) [])
+    (lastReserved (fed acts (call (fresh uuid reserved) s .store)) reserved)
+    (afterActs acts (call (fresh uuid reserved) s .store))

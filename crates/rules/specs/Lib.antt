@@ -27,8 +27,10 @@ pub mod Write
 pub mod Read
 pub mod Triples
 pub mod ReadMany
+pub mod Batch
 pub mod Settle
 pub mod Call
+pub mod Act
 pub mod Plain
 pub mod Demand
 pub mod Answers

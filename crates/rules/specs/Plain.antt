@@ -3,21 +3,26 @@
 use mathlib.Core.List.{List, [], _∷_, _++_, map}
 use mathlib.Core.Bool.{Bool}
 use mathlib.Core.Option.{Option, none, some}
-use Prim.Native.Nat.{ℕ, min}
+use Prim.Native.Nat.{ℕ, zero, suc, min}
 use lib.Dec.{eqb}
 use lib.ListN.{length, take, drop}
 use Rattle.rules.specs.Lists.{if_then_else_, maybe, find}
 use Rattle.rules.specs.Sizes.{mostTransfer}
 use Rattle.rules.specs.Bytes.{patch, padded}
-use Rattle.rules.specs.Triples.{Triple}
+use Rattle.rules.specs.Time.{Time}
+use Rattle.rules.specs.Triples.{Triple, decodeTriples}
 use Rattle.rules.specs.ReadMany.{Pair, pairsOf}
 use Rattle.rules.specs.Call.{Call}
 use Rattle.rules.specs.Call.Call.{fresh, enter, write, grow, settle, look}
+use Rattle.rules.specs.Act.{Act}
+use Rattle.rules.specs.Act.Act.{whole, batch}
 
--- "Fed: each call's arguments without the store's buffers, whether it was refused [..]; nothing else."
+-- "Fed: each call's arguments without the store's buffers, whether it was refused and, where a request's step speaks of the parts done, the number of
+-- them that the call answers; nothing else."
 pub record Fed : Type 0 where
-  pub call : Call
+  pub act : Act
   pub refused : Bool
+  pub done : ℕ
 
 -- "State: objects, each with its bytes; at the start none." (a plain array)
 pub record File : Type 0 where
@@ -44,9 +49,21 @@ accepted (grow object size time) files = change object (padded size) files
 accepted settle files = files
 accepted (look l) files = files
 
+-- W-204: "the plain array per file is then the one that the writes done, in order, produce": the first n writes of a batch, each by write's step
+unfoldable pub plainWrites : List Triple → List ℕ → Time → ℕ → List File → List File
+plainWrites ts bytes time zero files = files
+plainWrites [] bytes time (suc n) files = files
+plainWrites (t ∷ ts) bytes time (suc n) files =
+    plainWrites ts (drop (t .len) bytes) time n (accepted (write (t .object) (t .offset) (take (t .len) bytes) time) files)
+
+-- the step of an act that was not refused, with so many of its parts done
+unfoldable pub actStep : Act → ℕ → List File → List File
+actStep (whole c) done files = accepted c files
+actStep (batch list bytes time) done files = plainWrites (decodeTriples list) bytes time done files
+
 -- "refused calls: no change"
 unfoldable pub step : Fed → List File → List File
-step f files = if f .refused then files else accepted (f .call) files
+step f files = if f .refused then files else actStep (f .act) (f .done) files
 
 -- the plain arrays after what was fed
 unfoldable pub plain : List Fed → List File → List File

@@ -25,6 +25,7 @@ pub data Refusal : Type 0 where
   no-group-place : Refusal
   no-extent-place : Refusal
   bad-reads : Refusal
+  bad-batch : Refusal
 
 -- the number of each
 unfoldable pub numberOf : Refusal → ℕ
@@ -45,6 +46,7 @@ numberOf count-disagrees = 14
 numberOf no-group-place = 15
 numberOf no-extent-place = 16
 numberOf bad-reads = 17
+numberOf bad-batch = 18
 
 -- a refusal and the test that tells whether its case holds
 pub record Case : Type 0 where

@@ -8,8 +8,8 @@ use Rattle.rules.specs.Bytes.{padded}
 use Rattle.rules.specs.Card.{Card}
 use Rattle.rules.specs.Extent.{Extent}
 use Rattle.rules.specs.Store.{Store}
+use Rattle.rules.specs.Call.{run}
 use Rattle.rules.specs.Call.Call.{write, settle}
-use Rattle.rules.specs.Demand.{run}
 use Rattle.worked.proofs.Stores.{time, made, zeroth, answer, extents, cards, extent, card, computed}
 
 -- 4,100 ones in blocks 1 and 2, with their checksum

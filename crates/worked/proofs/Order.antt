@@ -8,10 +8,9 @@ use Rattle.rules.specs.Head.{encodeHead}
 use Rattle.rules.specs.Time.{Time}
 use Rattle.rules.specs.Card.{Card}
 use Rattle.rules.specs.Store.{Store, decode}
-use Rattle.rules.specs.Call.{call}
+use Rattle.rules.specs.Call.{call, run}
 use Rattle.rules.specs.Call.Call.{enter, write, grow, settle, look}
 use Rattle.rules.specs.Call.Look.{read, fill}
-use Rattle.rules.specs.Demand.{run}
 use Rattle.worked.proofs.Stores.{uuid, time, small, answer, extents, cards, extent, card, withHead, mapped, imageByte, withCards, second, computed}
 
 -- no time

@@ -10,10 +10,9 @@ use mathlib.Core.Option.{some}
 use lib.ListN.{replicate}
 use Rattle.rules.specs.Store.{decode}
 use Rattle.rules.specs.Inspect.{checksumOf}
-use Rattle.rules.specs.Call.{call}
+use Rattle.rules.specs.Call.{call, run}
 use Rattle.rules.specs.Call.Call.{fresh, enter, write, grow, settle, look}
 use Rattle.rules.specs.Call.Look.{read, fill}
-use Rattle.rules.specs.Demand.{run}
 use Rattle.worked.proofs.Stores.{zeros, time, uuid, written, overwritten, grown, done, answer, extents, cards, extent, card, computed}
 
 pub record History : Type 0 where

@@ -12,9 +12,8 @@ use Rattle.rules.specs.Extent.{Extent}
 use Rattle.rules.specs.Group.{Group, emptyGroup, setChecksumSlot}
 use Rattle.rules.specs.Book.{Books}
 use Rattle.rules.specs.Store.{Store, lent, decode, encodeInto, withBooks}
-use Rattle.rules.specs.Call.{Call, call}
+use Rattle.rules.specs.Call.{Call, call, run}
 use Rattle.rules.specs.Call.Call.{fresh, enter, write, grow, settle}
-use Rattle.rules.specs.Demand.{run}
 use Rattle.rules.proofs.Opened.{opened}
 
 -- a store of so many blocks, and books of so many places, all zeros
