@@ -1,16 +1,19 @@
--- Laws of a list of triples: a triple read, and the lengths taken off a room one after another.
+-- Laws of a list of triples: a triple read, its length tested, and the lengths taken off a room one after another.
 -- Assumes nothing.
 use mathlib.Core.Path.{_≡_, refl, sym, ap, _∙_}
-use mathlib.Core.Bool.{true, false}
+use mathlib.Core.Bool.{Bool, true, false, not, _||_}
 use mathlib.Core.List.{List, [], _∷_}
 use Prim.Native.Nat.{ℕ, suc, _+_, _-_, _*_, _/_, _%_, _≤_, _<_}
 use native.Mathlib.Omega.{arith}
-use lib.Dec.{ltb}
+use lib.Dec.{eqb, ltb}
 use lib.ListN.{length, drop, drop-of-length-le}
 use lib.Seq.{drop-cons}
-use borrow.Author.Tests.{eq-eqb, ne-eqb, lt-ltb, le-ltb, ltb-true, ltb-false}
+use borrow.Author.Tests.{eqb-true, eqb-false, eq-eqb, ne-eqb, lt-ltb, le-ltb}
+use Rattle.rules.specs.Lists.{any}
+use Rattle.rules.specs.Sizes.{mostTransfer}
 use Rattle.rules.specs.Bytes.{le, part}
 use Rattle.rules.specs.Triples.{Triple, tripleBytes, mostTriples, decodeTriple, decodeTriples, listWrong, lengthsOf}
+use Rattle.rules.specs.Batch.{lengthOver}
 use Rattle.rules.proofs.ByteLaws.{part-part}
 use Rattle.rules.proofs.BookLaws.{length-decodeBook}
 use Rattle.rules.proofs.ListLaws.{test-cases}
@@ -68,11 +71,42 @@ module _ (list : List ℕ) where
   unfolding triplesFrom
   from-end i l = drop-of-length-le (decodeTriples list) {i = i} (rw length-triples l)
 
-  -- ---- the lengths
+  -- ---- a length
 
-  -- what is left of the room exceeds, or does not, the lengths from a place on, as the room does all of them
+  -- no length before a place exceeds what one write takes: so one does exactly where one from there on does
+  abbrev pub NoneOver : ℕ → Type 0
+  NoneOver i = lengthOver (decodeTriples list) ≡ lengthOver (triplesFrom list i)
+
+  -- before the first there is none
+  pub over-start : NoneOver 0
+  over-start = ap lengthOver (sym from-start)
+
+  module _ (i n : ℕ) (e : n ≡ length list / tripleBytes) (h : NoneOver i) where
+    -- the length at the place, and those behind it
+    over-here : (t : struct.Triple) → i < n → tripleOf t ≡ tripleAt list i → lengthOver (decodeTriples list) ≡ (ltb mostTransfer (t .len) || lengthOver (triplesFrom list (i + 1)))
+    unfolding tripleOf lengthOver any
+    over-here t l q =
+        let y : tripleAt list i .len ≡ t .len = ap (λ (u : Triple). u .len) (sym q) in
+        h ∙ ap lengthOver (from-here i (omega (arith, l, e))) ∙ ap (λ (k : ℕ). ltb mostTransfer k || lengthOver (triplesFrom list (i + 1))) y
+
+    -- it exceeds
+    pub over-found : (t : struct.Triple) → i < n → tripleOf t ≡ tripleAt list i → mostTransfer < t .len → true ≡ lengthOver (decodeTriples list)
+    over-found t l q x = sym (over-here t l q ∙ ap (λ (b : Bool). b || lengthOver (triplesFrom list (i + 1))) (lt-ltb mostTransfer (t .len) x))
+
+    -- it does not
+    pub over-more : (t : struct.Triple) → i < n → tripleOf t ≡ tripleAt list i → t .len ≤ mostTransfer → NoneOver (i + 1)
+    over-more t l q x = over-here t l q ∙ ap (λ (b : Bool). b || lengthOver (triplesFrom list (i + 1))) (le-ltb mostTransfer (t .len) x)
+
+    -- no length is behind
+    pub over-end : n ≤ i → false ≡ lengthOver (decodeTriples list)
+    unfolding lengthOver any
+    over-end l = sym (h ∙ ap lengthOver (from-end i (omega (arith, l, e))))
+
+  -- ---- the lengths together
+
+  -- the lengths before a place were taken off a room
   abbrev pub LeftOf : (room left i : ℕ) → Type 0
-  LeftOf room left i = ltb room (lengthsOf (decodeTriples list)) ≡ ltb left (lengthsOf (triplesFrom list i))
+  LeftOf room left i = left + lengthsOf (decodeTriples list) ≡ room + lengthsOf (triplesFrom list i)
 
   -- the lengths from a place on
   lengths-here : (i : ℕ) → i < length list / tripleBytes → lengthsOf (triplesFrom list i) ≡ tripleAt list i .len + lengthsOf (triplesFrom list (i + 1))
@@ -82,29 +116,46 @@ module _ (list : List ℕ) where
   module _ (room : ℕ) where
     -- at the start
     pub left-start : LeftOf room room 0
-    left-start = ap (λ (ts : List Triple). ltb room (lengthsOf ts)) (sym from-start)
+    left-start = ap (λ (ts : List Triple). room + lengthsOf ts) (sym from-start)
 
     module _ (left i n : ℕ) (e : n ≡ length list / tripleBytes) (h : LeftOf room left i) where
-      -- a length exceeds what is left
-      pub left-short : (t : struct.Triple) → i < n → tripleOf t ≡ tripleAt list i → left < t .len → true ≡ ltb room (lengthsOf (decodeTriples list))
+      -- the length at the place, and those behind it
+      left-here : (t : struct.Triple) → i < n → tripleOf t ≡ tripleAt list i → lengthsOf (triplesFrom list i) ≡ t .len + lengthsOf (triplesFrom list (i + 1))
       unfolding tripleOf
-      left-short t l q x =
+      left-here t l q =
           let y : t .len ≡ tripleAt list i .len = ap (λ (u : Triple). u .len) q in
-          sym (h ∙ lt-ltb left (lengthsOf (triplesFrom list i)) (omega (arith, lengths-here i (omega (arith, l, e)), x, y)))
+          lengths-here i (omega (arith, l, e)) ∙ ap (λ (k : ℕ). k + lengthsOf (triplesFrom list (i + 1))) (sym y)
 
-      -- it does not
+      -- it exceeds what is left
+      past-room : (t : struct.Triple) → i < n → tripleOf t ≡ tripleAt list i → left < t .len → room < lengthsOf (decodeTriples list)
+      past-room t l q x = omega (arith, h, left-here t l q, x)
+
+      -- so the lengths exceed the room
+      pub left-short : (t : struct.Triple) → i < n → tripleOf t ≡ tripleAt list i → left < t .len → true ≡ ltb room (lengthsOf (decodeTriples list))
+      left-short t l q x = sym (lt-ltb room (lengthsOf (decodeTriples list)) (past-room t l q x))
+
+      -- and do not add up to it
+      pub left-differs : (t : struct.Triple) → i < n → tripleOf t ≡ tripleAt list i → left < t .len → true ≡ not (eqb (lengthsOf (decodeTriples list)) room)
+      left-differs t l q x = sym (ap not (ne-eqb (lengthsOf (decodeTriples list)) room (λ z. omega (arith, z, past-room t l q x))))
+
+      -- it does not exceed it
       pub left-more : (t : struct.Triple) → i < n → tripleOf t ≡ tripleAt list i → t .len ≤ left → LeftOf room (left - t .len) (i + 1)
-      unfolding tripleOf
-      left-more t l q x =
-          let y : t .len ≡ tripleAt list i .len = ap (λ (u : Triple). u .len) q in
-          let z : lengthsOf (triplesFrom list i) ≡ t .len + lengthsOf (triplesFrom list (i + 1)) = lengths-here i (omega (arith, l, e)) ∙ ap (λ (k : ℕ). k + lengthsOf (triplesFrom list (i + 1))) (sym y) in
-          h ∙ test-cases _ (ltb (left - t .len) (lengthsOf (triplesFrom list (i + 1))))
-          (λ p. lt-ltb left (lengthsOf (triplesFrom list i)) (omega (arith, z, x, ltb-true (left - t .len) (lengthsOf (triplesFrom list (i + 1))) p)) ∙ sym p)
-          (λ p. le-ltb left (lengthsOf (triplesFrom list i)) (omega (arith, z, x, ltb-false (left - t .len) (lengthsOf (triplesFrom list (i + 1))) p)) ∙ sym p)
+      left-more t l q x = omega (arith, h, left-here t l q, x)
 
       -- no length is behind
-      pub left-end : n ≤ i → false ≡ ltb room (lengthsOf (decodeTriples list))
+      none-behind : n ≤ i → left + lengthsOf (decodeTriples list) ≡ room
       unfolding lengthsOf
-      left-end l =
+      none-behind l =
           let z : lengthsOf (triplesFrom list i) ≡ 0 = ap lengthsOf (from-end i (omega (arith, l, e))) in
-          sym (h ∙ le-ltb left (lengthsOf (triplesFrom list i)) (omega (arith, z)))
+          omega (arith, h, z)
+
+      -- so the lengths do not exceed the room
+      pub left-end : n ≤ i → false ≡ ltb room (lengthsOf (decodeTriples list))
+      left-end l = sym (le-ltb room (lengthsOf (decodeTriples list)) (omega (arith, none-behind l)))
+
+      -- and add up to it where nothing is left
+      pub left-none : n ≤ i → not (eqb left 0) ≡ not (eqb (lengthsOf (decodeTriples list)) room)
+      left-none l =
+          test-cases _ (eqb left 0)
+          (λ p. ap not (p ∙ sym (eq-eqb (lengthsOf (decodeTriples list)) room (omega (arith, eqb-true left 0 p, none-behind l)))))
+          (λ p. ap not (p ∙ sym (ne-eqb (lengthsOf (decodeTriples list)) room (λ z. eqb-false left 0 p (omega (arith, z, none-behind l))))))

@@ -1,9 +1,11 @@
 // A lent list of triples (object, offset, length), each number in 8 bytes, little-endian: the tests of the list, and a triple of it.
 ghost use mathlib.Core.Path.{_≡_};
+ghost use mathlib.Core.Bool.{not};
 ghost use Prim.Native.Nat.{_+_, _*_, _≤_};
-ghost use lib.Dec.{ltb};
+ghost use lib.Dec.{eqb, ltb};
 ghost use lib.ListN.{length};
 ghost use Rattle.rules.specs.Triples.{tripleBytes, decodeTriples, listWrong, lengthsOf};
+ghost use Rattle.rules.specs.Batch.{lengthOver};
 ghost use Rattle.triples.specs.Triple.{tripleOf, tripleAt};
 
 // Bytes of a triple.
@@ -11,6 +13,9 @@ pub const TRIPLE_BYTES: usize = 24;
 
 // Triples of a list at most.
 pub const MOST_TRIPLES: usize = 64;
+
+// Bytes that one write takes at most.
+const MOST_TRANSFER: u64 = 1048576;
 
 // Where in a triple the offset and the length stand.
 const OFFSET_AT: usize = 8;
@@ -63,4 +68,38 @@ pub fn lengths_exceed(list: &[u8], room: usize) -> bool
         i += 1;
     }
     false
+}
+
+// Whether a length exceeds what one write takes.
+pub fn length_over(list: &[u8]) -> bool
+    ensures { λ r. ⌜ r ≡ lengthOver (decodeTriples (now (list .entry))) ⌝ }
+{
+    let n = list.len() / TRIPLE_BYTES;
+    let mut i: usize = 0;
+    while i < n {
+        let t = triple_at(list, i);
+        if MOST_TRANSFER < t.len {
+            return true;
+        }
+        i += 1;
+    }
+    false
+}
+
+// Whether the lengths do not add up to `total`. They are taken off it one after another, as above.
+pub fn lengths_differ(list: &[u8], total: usize) -> bool
+    ensures { λ r. ⌜ r ≡ not (eqb (lengthsOf (decodeTriples (now (list .entry)))) total) ⌝ }
+{
+    let n = list.len() / TRIPLE_BYTES;
+    let mut left = total as u64;
+    let mut i: usize = 0;
+    while i < n {
+        let t = triple_at(list, i);
+        if left < t.len {
+            return true;
+        }
+        left -= t.len;
+        i += 1;
+    }
+    left != 0
 }
