@@ -1,26 +1,27 @@
 -- From places to extents: what holds at every place of a book, told of its extents' ends and of the device's blocks that they map.
 -- Assumes nothing.
-use mathlib.Core.Path.{_≡_, refl, ap, _∙_}
-use mathlib.Core.List.{List, [], _∷_, map, flatMap}
-use mathlib.Core.Bool.{Bool, true, not, _&&_, _||_}
+use mathlib.Core.Path.{_≡_, refl, sym, ap, _∙_}
+use mathlib.Core.List.{List, [], _∷_, _++_, map, flatMap, map-append}
+use mathlib.Core.Bool.{Bool, true, not, _||_}
 use Prim.Native.Nat.{ℕ, suc, _+_, _-_, _<_}
 use native.Mathlib.Nat.{zero-add}
 use native.Mathlib.Omega.{arith}
 use lib.Dec.{eqb, ltb, leb}
 use lib.ListN.{length, getD, length-map}
 use borrow.Author.Tests.{ltb-true, le-leb}
-use Rattle.rules.specs.Lists.{range, all, filter}
+use Rattle.rules.specs.Lists.{range, all, filter, count}
 use Rattle.rules.specs.Extent.{Extent, extentEnd}
 use Rattle.rules.specs.Integrity.{mappedBlocks}
 use Rattle.rules.specs.Rewrite.{Rewritten}
 use Rattle.rules.specs.Finish.{finishedExtents}
 use Rattle.rules.specs.Demand.{Place, placesOf}
-use Rattle.rules.proofs.ListLaws.{or-cases, or-left, or-right, all-append, length-range, getD-map-range, Each, each-at, each-of, each-all, each-both}
+use Rattle.rules.proofs.ListLaws.{or-cases, or-left, or-right, all-map, length-range, getD-map-range, Each, each-at, each-of, each-all, each-both}
 use Rattle.rules.proofs.PassLaws.{all-each}
 use Rattle.history.proofs.Rewritten.{outside, blockPlaces, newPlaces, Apart}
 use Rattle.history.proofs.ApartLaws.{laid-of, each-split}
 use Rattle.history.proofs.PlaceLaws.{places-stretch}
 use Rattle.history.proofs.ExtentsAfter.{each-place-after}
+use Rattle.history.proofs.MoreLists.{count-map, count-turn}
 
 -- ---- one extent
 
@@ -78,19 +79,27 @@ file-places object n es a h =
 
 -- ---- the blocks of the device
 
--- a test of the blocks of a stretch
-all-blockPlaces : (f : ℕ → Bool) (object logical : ℕ) (bs : List ℕ) → all (λ p. f (p .block)) (blockPlaces object logical bs) ≡ all f bs
-unfolding blockPlaces all
-all-blockPlaces f object logical [] = refl
-all-blockPlaces f object logical (b ∷ bs) = ap (λ t. f b && t) (all-blockPlaces f object (suc logical) bs)
+-- the blocks of a stretch's places
+map-blockPlaces : (object logical : ℕ) (bs : List ℕ) → map (λ p. p .block) (blockPlaces object logical bs) ≡ bs
+unfolding blockPlaces
+map-blockPlaces object logical [] = refl
+map-blockPlaces object logical (b ∷ bs) = ap (λ (xs : List ℕ). b ∷ xs) (map-blockPlaces object (suc logical) bs)
 
--- a test of the blocks that extents map is one of their places
-pub mapped-places : (f : ℕ → Bool) (es : List Extent) → all f (mappedBlocks es) ≡ all (λ p. f (p .block)) (flatMap placesOf es)
+-- the blocks that extents map are those of their places
+mapped-are : (es : List Extent) → mappedBlocks es ≡ map (λ p. p .block) (flatMap placesOf es)
 unfolding mappedBlocks flatMap
-mapped-places f [] = unfold all in refl
-mapped-places f (e ∷ es) =
-    all-append f (range (e .physical) (e .count)) (mappedBlocks es)
-    ∙ rw (mapped-places f es, places-stretch e, all-append (λ p. f (p .block)) (blockPlaces (e .object) (e .logical) (range (e .physical) (e .count))) (flatMap placesOf es), all-blockPlaces f (e .object) (e .logical) (range (e .physical) (e .count))) refl
+mapped-are [] = refl
+mapped-are (e ∷ es) =
+    rw (map-append (λ (p : Place). p .block) (placesOf e) (flatMap placesOf es), places-stretch e, map-blockPlaces (e .object) (e .logical) (range (e .physical) (e .count)))
+    (ap (λ (xs : List ℕ). range (e .physical) (e .count) ++ xs) (mapped-are es))
+
+-- a test of them is one of their places
+pub mapped-places : (f : ℕ → Bool) (es : List Extent) → all f (mappedBlocks es) ≡ all (λ p. f (p .block)) (flatMap placesOf es)
+mapped-places f es = ap (all f) (mapped-are es) ∙ all-map f (λ p. p .block) (flatMap placesOf es)
+
+-- a block stands among them once for each place that has it
+pub mapped-count : (b : ℕ) (es : List Extent) → count (eqb b) (mappedBlocks es) ≡ count (λ p. eqb (p .block) b) (flatMap placesOf es)
+mapped-count b es = sym (count-turn b (mappedBlocks es)) ∙ ap (count (λ x. eqb x b)) (mapped-are es) ∙ count-map (λ x. eqb x b) (λ p. p .block) (flatMap placesOf es)
 
 -- it passes at the finished extents where it passes at the old places outside the rewritten units and at the new ones
 pub mapped-after : (f : ℕ → Bool) (object : ℕ) (rs : List Rewritten) (es : List Extent)

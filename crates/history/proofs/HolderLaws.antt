@@ -177,16 +177,21 @@ places-below blocks (each-more {x = e} {xs = es} l h) =
     ∙ and-intro (all f (map g (range 0 (e .count)))) (all f (flatMap placesOf es))
     (all-map f g (range 0 (e .count)) ∙ all-range-of (λ i. f (g i)) 0 (e .count) (λ i m. lt-ltb (e .physical + (0 + i)) blocks (omega arith))) (places-below blocks h)
 
+-- a block with one holder is at one place at most
+pub place-once : (reserved : ℕ) (v : Volume) (b : ℕ) → holders reserved v b ≡ 1 → count (λ p. eqb (p .block) b) (flatMap placesOf (v .books .extents)) ≤ 1
+unfolding holders places
+place-once reserved v b h = omega (arith, h)
+
 -- where each block is in one place, no file has more places than there are blocks
 pub filePlaces-most : (reserved : ℕ) (v : Volume) → Lawful v → ((b : ℕ) → b < v .blocks → holders reserved v b ≡ 1) → (object : ℕ) → filePlaces v object ≤ v .blocks
-unfolding filePlaces holders places onDevice
+unfolding filePlaces places onDevice
 filePlaces-most reserved v l h object =
     let ps : List Place = places v in
     let a : count (λ p. eqb (p .object) object) ps ≤ length ps = count-le (λ p. eqb (p .object) object) ps in
     let d : Each (λ e. e .physical + e .count ≤ v .blocks) (v .books .extents) =
     each-all (λ e. leb (e .physical + e .count) (v .blocks)) (λ e q. leb-true (e .physical + e .count) (v .blocks) q) (v .books .extents) (l .device) in
     let b : count (λ p. ltb (p .block) (v .blocks)) ps ≡ length ps = count-every (λ p. ltb (p .block) (v .blocks)) ps (places-below (v .blocks) d) in
-    let o : count (λ p. ltb (p .block) (v .blocks)) ps ≤ v .blocks = count-once (λ p. p .block) ps (v .blocks) (λ n m. omega (arith, h n m)) in
+    let o : count (λ p. ltb (p .block) (v .blocks)) ps ≤ v .blocks = count-once (λ p. p .block) ps (v .blocks) (λ n m. place-once reserved v n (h n m)) in
     omega arith
 
 -- ---- what a read finds
