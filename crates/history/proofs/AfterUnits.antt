@@ -15,6 +15,7 @@ use Rattle.rules.specs.Lists.{if_then_else_, given, range, all, any, member, as
 use Rattle.rules.specs.Sizes.{blockBytes, unitBlocks, groupUnits}
 use Rattle.rules.specs.Bytes.{part, padded}
 use Rattle.rules.specs.Extent.{Extent, covers, blockOf, mapping}
+use Rattle.rules.specs.Checksum.{unitChecksum}
 use Rattle.rules.specs.Store.{Volume, blockAt}
 use Rattle.rules.specs.Integrity.{mappedBlocks}
 use Rattle.rules.specs.Units.{Change}
@@ -23,7 +24,7 @@ use Rattle.rules.specs.Inspect.Inspected.{checked}
 use Rattle.rules.specs.Rewrite.{Progress, Rewritten}
 use Rattle.rules.specs.Finish.{newBlocks, finishedExtents, finishedImage, finished}
 use Rattle.rules.proofs.ListLaws.{clash, test-cases, if-true, if-false, and-left, and-right, all-append, all-range-at, map-each, ascending-tail, Each, each-any, each-weaken}
-use Rattle.rules.proofs.CountLaws.{each-range}
+use Rattle.rules.proofs.CountLaws.{each-range, Once}
 use Rattle.rules.proofs.PassLaws.{Lawful, all-each, mappable, mapped-all}
 use Rattle.history.proofs.Rewritten.{newMapping, outside, Units, Apart, apart-lawful, newMapping-in, newMapping-behind, newMapping-outside}
 use Rattle.history.proofs.MappingLaws.{covers-true, mapping-yes, mapping-no, mapping-nil}
@@ -34,8 +35,8 @@ use Rattle.history.proofs.GroupsAfter.{unitBefore, units-later, checksu
 use Rattle.rules.proofs.KeptLaws.{length-assigned, assigned-kept}
 use Rattle.history.proofs.UnitLaws.{getD-mapped, makes-checked, SameUnit, valid-blocks}
 use Rattle.history.proofs.ChangeLaws.{UnitsOf, Becomes, valid-new}
-use Rattle.history.proofs.PlanLaws.{Planned, unitPart}
-use Rattle.history.proofs.PlannedLaws.{Made, planned-made, planned-order, planned-free, planned-once, made-blocks, units-made}
+use Rattle.history.proofs.PlanLaws.{UnitRight, StaysHole, Planned, unitPart}
+use Rattle.history.proofs.PlannedLaws.{Made, planned-made, planned-right, planned-order, planned-free, planned-once, made-blocks, units-made}
 use Rattle.history.proofs.MoreLists.{each-mem, getElem-some}
 
 -- what passes at all mapped blocks passes where a file's block is
@@ -63,31 +64,42 @@ outside-of : {rs : List Rewritten} (block : ℕ) → Each (λ r. block / unitBlo
 unfolding outside
 outside-of block h = all-each (λ r. not (eqb (block / unitBlocks) (r .unit))) (each-weaken (λ r d. ap not (ne-eqb (block / unitBlocks) (r .unit) d)) h)
 
--- a change that is carried out on a lawful volume
-pub record Carrying (v : Volume) (c : Change) (xs ys : List ℕ) (us : List ℕ) (p : Progress) (rs : List Rewritten) (q : Progress) : Type 0 where
+-- rewritten units of a change to a lawful volume: of the file, ascending, and their new blocks were free and are new once
+pub record Carrying (v : Volume) (c : Change) (rs : List Rewritten) : Type 0 where
   pub lawful : Lawful v
+  pub made : Each (Made v c) rs
+  pub order : ascending unitBefore rs ≡ true
+  pub free : (b : ℕ) → member b (newBlocks rs) ≡ true → (b < v .blocks) × (v .used b ≡ false)
+  pub once : Once (newBlocks rs)
+  pub image : v .blocks * blockBytes ≤ length (v .image)
+
+-- so are those of a plan that is carried out
+pub carrying : {v : Volume} {c : Change} {Hole : ℕ → Type 0} {Right : Rewritten → Type 0} {us : List ℕ} {p : Progress} {rs : List Rewritten} {q : Progress}
+    → Lawful v → v .blocks * blockBytes ≤ length (v .image) → UnitsOf c us → Planned v c Hole Right us p rs q → Carrying v c rs
+carrying l i u d = record {
+  lawful = l;
+  made = planned-made d (u .within);
+  order = planned-order d (u .ordered);
+  free = λ b m. let f = planned-free d b m in (f .below, f .unused);
+  once = planned-once d;
+  image = i;
+}
+
+-- what is known of the change besides, where a plain array tells the file
+pub record Filling (v : Volume) (c : Change) (xs ys : List ℕ) (us : List ℕ) (p : Progress) (rs : List Rewritten) (q : Progress) : Type 0 where
   pub becomes : Becomes c xs ys
   pub units : UnitsOf c us
-  pub planned : Planned v c ys us p rs q
-  pub image : v .blocks * blockBytes ≤ length (v .image)
+  pub planned : Planned v c (StaysHole v c ys) (UnitRight v ys) us p rs q
   pub slots : Each (λ g. length (g .slots) ≡ groupUnits) (v .books .groups)
 
-module _ {v : Volume} {c : Change} {xs ys : List ℕ} {us : List ℕ} {p : Progress} {rs : List Rewritten} {q : Progress} (d : Carrying v c xs ys us p rs q) where
-  -- each rewritten unit is one of the file
-  pub made-all : Each (Made v c ys) rs
-  made-all = planned-made (d .planned) (d .units .within)
-
-  -- they ascend
-  pub in-order : ascending unitBefore rs ≡ true
-  in-order = planned-order (d .planned) (d .units .ordered)
-
+module _ {v : Volume} {c : Change} {rs : List Rewritten} (d : Carrying v c rs) where
   -- each is laid out
   pub laid-all : Each (LaidOut (v .blocks)) rs
-  laid-all = each-weaken (λ r m. m .right .laid) made-all
+  laid-all = each-weaken (λ r m. m .placed .laid) (d .made)
 
   -- one to sixteen blocks each
   units-all : Units rs
-  units-all = units-made made-all in-order
+  units-all = units-made (d .made) (d .order)
 
   -- the extents before the change do not overlap
   pub apart-old : Apart (v .books .extents)
@@ -106,7 +118,7 @@ module _ {v : Volume} {c : Change} {xs ys : List ℕ} {us : List ℕ} {p : Progr
   -- a mapped block is not new
   mapped-kept : (object block b : ℕ) → mapping (v .books .extents) object block ≡ some b → member b (newBlocks rs) ≡ false
   mapped-kept object block b m =
-      test-cases (member b (newBlocks rs) ≡ false) (member b (newBlocks rs)) (λ t. absurd (clash (planned-free (d .planned) b t .unused) (mapped-used object block b m))) (λ t. t)
+      test-cases (member b (newBlocks rs) ≡ false) (member b (newBlocks rs)) (λ t. absurd (clash (d .free b t .1) (mapped-used object block b m))) (λ t. t)
 
   -- a mapped block keeps its bytes
   mapped-bytes : (object block b : ℕ) → mapping (v .books .extents) object block ≡ some b → blockAt (finishedImage rs (v .image)) b ≡ blockAt (v .image) b
@@ -120,7 +132,7 @@ module _ {v : Volume} {c : Change} {xs ys : List ℕ} {us : List ℕ} {p : Progr
       (λ t. if-true (eqb o (c .object)) _ _ t ∙ newMapping-outside rs b (mapping (v .books .extents) o b) (outside-of b (h (eqb-true o (c .object) t))))
       (λ t. if-false (eqb o (c .object)) _ _ t)
 
-  module _ (time : Time) where
+  module _ (time : Time) (q : Progress) where
     -- the volume that is left
     abbrev left : Volume
     left = finished c time rs q v
@@ -148,21 +160,24 @@ module _ {v : Volume} {c : Change} {xs ys : List ℕ} {us : List ℕ} {p : Progr
             (each-weaken (λ b k. mapping-stays o b (λ e. each-weaken (λ r n z. n (omega (arith, k .0, k .1))) (h e))) (each-range (u * unitBlocks) unitBlocks))
 
     -- a rewritten unit has the array's new bytes
-    pub unit-new : (r : Rewritten) → List·Memᴰ r rs → inspectUnit left (c .object) (c .newSize) (r .unit) ≡ checked (unitPart (r .unit) ys)
+    pub unit-new : {xs ys us : List ℕ} {p : Progress} → Filling v c xs ys us p rs q → (r : Rewritten) → List·Memᴰ r rs → inspectUnit left (c .object) (c .newSize) (r .unit) ≡ checked (unitPart (r .unit) ys)
     unfolding finished
-    unit-new r m =
-        makes-checked left (c .object) (c .newSize) u (r .blocks) (unitPart u ys) (sym (valid-new c xs ys (d .becomes) u))
-        (made-blocks k ∙ ap (λ (n : ℕ). begun n blockBytes) (valid-new c xs ys (d .becomes) u)) mapped blocks
-        (checksum-slot left (c .object) u ∙ slot-finished-same (c .object) rs in-order (v .books .groups) (d .slots) r m ∙ ap some (k .right .checksum))
+    unit-new {xs} {ys} f r m =
+        makes-checked left (c .object) (c .newSize) u (r .blocks) (unitPart u ys) (sym (valid-new c xs ys (f .becomes) u))
+        (made-blocks k ∙ ap (λ (n : ℕ). begun n blockBytes) (valid-new c xs ys (f .becomes) u)) mapped blocks
+        (checksum-slot left (c .object) u ∙ slot-finished-same (c .object) rs (d .order) (v .books .groups) (f .slots) r m ∙ ap some (k .placed .checksum ∙ ap (unitChecksum (v .uuid) (c .object) u) (g .bytes)))
       where
-        k : Made v c ys r
-        k = each-mem made-all m
+        k : Made v c r
+        k = each-mem (d .made) m
+
+        g : UnitRight v ys r
+        g = each-mem (planned-right (f .planned)) m
 
         u : ℕ
         u = r .unit
 
         long : length (r .blocks) ≡ length (r .kept)
-        long = ap length (k .right .laid .blocks) ∙ length-assigned (r .kept) (r .new) (k .right .laid .many)
+        long = ap length (k .placed .laid .blocks) ∙ length-assigned (r .kept) (r .new) (k .placed .laid .many)
 
         few : length (r .blocks) ≤ unitBlocks
         few = omega (arith, made-blocks k, valid-blocks (c .newSize) u)
@@ -170,19 +185,19 @@ module _ {v : Volume} {c : Change} {xs ys : List ℕ} {us : List ℕ} {p : Progr
         mapped : (i : ℕ) → i < length (r .blocks) → mapping (finishedExtents (c .object) rs (v .books .extents)) (c .object) (u * unitBlocks + i) ≡ some (getD (r .blocks) i 0)
         mapped i l =
             let e : (u * unitBlocks + i) / unitBlocks ≡ u = omega (arith, few) in
-            let f : (u * unitBlocks + i) % unitBlocks ≡ i = omega (arith, few) in
+            let z : (u * unitBlocks + i) % unitBlocks ≡ i = omega (arith, few) in
             mapping-after (c .object) rs (v .books .extents) units-all apart-old (c .object) (u * unitBlocks + i)
             ∙ if-true (eqb (c .object) (c .object)) _ _ (eq-eqb (c .object) (c .object) refl)
-            ∙ newMapping-mem rs in-order r m (u * unitBlocks + i) _ e ∙ ap (getElem? (r .blocks)) f ∙ getElem-some (r .blocks) i l
+            ∙ newMapping-mem rs (d .order) r m (u * unitBlocks + i) _ e ∙ ap (getElem? (r .blocks)) z ∙ getElem-some (r .blocks) i l
 
         blocks : (i : ℕ) → i < length (r .blocks) → blockAt (finishedImage rs (v .image)) (getD (r .blocks) i 0) ≡ padded blockBytes (part (i * blockBytes) blockBytes (unitPart u ys))
         blocks i l = go (getD (r .kept) i none) refl
           where
             go : (o : Option ℕ) → getD (r .kept) i none ≡ o → blockAt (finishedImage rs (v .image)) (getD (r .blocks) i 0) ≡ padded blockBytes (part (i * blockBytes) blockBytes (unitPart u ys))
             go none e =
-                new-finishedImage (v .blocks) laid-all (v .image) (d .image) (planned-once (d .planned)) r m i (omega (arith, long)) e
-                ∙ ap (λ (zs : List ℕ). padded blockBytes (part (i * blockBytes) blockBytes zs)) (k .right .bytes)
+                new-finishedImage (v .blocks) laid-all (v .image) (d .image) (d .once) r m i (omega (arith, long)) e
+                ∙ ap (λ (zs : List ℕ). padded blockBytes (part (i * blockBytes) blockBytes zs)) (g .bytes)
             go (some b) e =
-                let n : getD (r .blocks) i 0 ≡ b = ap (λ (bs : List ℕ). getD bs i 0) (k .right .laid .blocks) ∙ assigned-kept (r .kept) (r .new) (k .right .laid .many) i b e in
-                let o : mapping (v .books .extents) (c .object) (u * unitBlocks + i) ≡ some b = sym (getD-mapped v (c .object) u unitBlocks i (omega (arith, few))) ∙ k .right .keeps i b e in
-                ap (blockAt (finishedImage rs (v .image))) n ∙ mapped-bytes (c .object) (u * unitBlocks + i) b o ∙ k .right .same i b e
+                let n : getD (r .blocks) i 0 ≡ b = ap (λ (bs : List ℕ). getD bs i 0) (k .placed .laid .blocks) ∙ assigned-kept (r .kept) (r .new) (k .placed .laid .many) i b e in
+                let o : mapping (v .books .extents) (c .object) (u * unitBlocks + i) ≡ some b = sym (getD-mapped v (c .object) u unitBlocks i (omega (arith, few))) ∙ k .placed .keeps i b e in
+                ap (blockAt (finishedImage rs (v .image))) n ∙ mapped-bytes (c .object) (u * unitBlocks + i) b o ∙ g .same i b e

@@ -31,13 +31,13 @@ use Rattle.history.proofs.ReadLaws.{UnitIs, is-hole, is-checked, FileIs
 use Rattle.history.proofs.Invariant.{Past, FilesAgree, BlocksAgree}
 use Rattle.history.proofs.MappingLaws.{mapping-none}
 use Rattle.history.proofs.BackedLaws.{none-unbacked}
-use Rattle.history.proofs.CardsAfter.{cardAfter, cards-are, size-mine, object-mine, allocated-mine, card-theirs, found-after, none-after}
+use Rattle.history.proofs.CardsAfter.{card-of-object, cardAfter, cards-are, size-mine, object-mine, allocated-mine, card-theirs, found-after, none-after}
 use Rattle.history.proofs.UnitLaws.{hole-means, makes-hole, inspect-valid, inspect-unit-same}
 use Rattle.history.proofs.ChangeLaws.{untouched-part, untouched-zeros}
 use Rattle.history.proofs.PlanLaws.{StaysHole, unitPart}
 use Rattle.history.proofs.PlannedLaws.{planned-at, planned-count, find-unit}
 use Rattle.history.proofs.BalanceLaws.{balance, balance-other}
-use Rattle.history.proofs.AfterUnits.{Carrying, made-all, in-order, apart-old, unit-stays, unit-new}
+use Rattle.history.proofs.AfterUnits.{Carrying, Filling, apart-old, unit-stays, unit-new}
 use Rattle.history.proofs.BlocksAfter.{holders-after}
 use Rattle.history.proofs.VolumeAfter.{CallRight, only-card}
 use Rattle.history.proofs.MoreLists.{count-all, each-mem, find-through, mem-through}
@@ -93,13 +93,8 @@ valid-inside : (a b u : ℕ) → validLength a u ≡ validLength b u → u * uni
 unfolding validLength
 valid-inside a b u e l = omega arith
 
--- a card that is found is of its object
-pub card-of-object : (v : Volume) (o : ℕ) (e : Card) → cardOf v o ≡ some e → e .object ≡ o
-unfolding cardOf
-card-of-object v o e h = eqb-true (e .object) o (find-passes (λ x. eqb (x .object) o) (v .books .cards) e h)
-
-module _ {v : Volume} {c : Change} {xs ys : List ℕ} {us : List ℕ} {p : Progress} {rs : List Rewritten} {q : Progress} {time : Time} {reserved : ℕ}
-    (d : Carrying v c xs ys us p rs q) (k : CallRight v c us p time reserved) (start : p .allocated ≡ k .card .allocated) where
+module _ {v : Volume} {c : Change} {xs ys : List ℕ} {us : List ℕ} {p : Progress} {card : Card} {rs : List Rewritten} {q : Progress} {time : Time}
+    (d : Carrying v c rs) (k : CallRight v c card q time) (told : Filling v c xs ys us p rs q) (start : p .allocated ≡ card .allocated) where
   -- the volume that is left
   abbrev w : Volume
   w = finished c time rs q v
@@ -110,16 +105,16 @@ module _ {v : Volume} {c : Change} {xs ys : List ℕ} {us : List ℕ} {p : Progr
 
   -- the file's card after it
   abbrev newCard′ : Card
-  newCard′ = moved (k .card)
+  newCard′ = moved card
 
   -- the file's card is of its object
-  card-object : k .card .object ≡ c .object
-  card-object = card-of-object v (c .object) (k .card) (k .known)
+  card-object : card .object ≡ c .object
+  card-object = card-of-object v (c .object) card (k .known)
 
   -- the file's card is found
   card-found : cardOf w (c .object) ≡ some newCard′
   unfolding cardOf finished
-  card-found = found-after c (q .allocated) time (c .object) (v .books .cards) (k .card) (k .known)
+  card-found = found-after c (q .allocated) time (c .object) (v .books .cards) card (k .known)
 
   -- every other as before
   card-other′ : (o : ℕ) → (o ≡ c .object → ⊥) → cardOf w o ≡ cardOf v o
@@ -140,10 +135,10 @@ module _ {v : Volume} {c : Change} {xs ys : List ℕ} {us : List ℕ} {p : Progr
     where
       ends : (e : Extent) → inFile (v .books .cards) e ≡ true → e .object ≡ c .object → e .logical + e .count ≤ begun (c .oldSize) blockBytes
       ends e t o = unfold inFile extentEnd in (
-          let i = any-index (λ x. eqb (x .object) (e .object) && leb (e .logical + e .count) (begun (x .size) blockBytes)) (v .books .cards) (k .card) (unfold inFile extentEnd in t) in
-          let x : Card = getD (v .books .cards) (i .0) (k .card) in
+          let i = any-index (λ x. eqb (x .object) (e .object) && leb (e .logical + e .count) (begun (x .size) blockBytes)) (v .books .cards) card (unfold inFile extentEnd in t) in
+          let x : Card = getD (v .books .cards) (i .0) card in
           let y : x .object ≡ e .object = eqb-true (x .object) (e .object) (and-left (eqb (x .object) (e .object)) (leb (e .logical + e .count) (begun (x .size) blockBytes)) (i .2)) in
-          let z : x ≡ k .card = each-at (only-card d k) (i .0) (k .card) (i .1) (y ∙ o) in
+          let z : x ≡ card = each-at (only-card d k) (i .0) card (i .1) (y ∙ o) in
           let s : x .size ≡ c .oldSize = ap (λ (a : Card). a .size) z ∙ k .size in
           omega (arith, s, leb-true (e .logical + e .count) (begun (x .size) blockBytes) (and-right (eqb (x .object) (e .object)) (leb (e .logical + e .count) (begun (x .size) blockBytes)) (i .2))))
 
@@ -157,7 +152,7 @@ module _ {v : Volume} {c : Change} {xs ys : List ℕ} {us : List ℕ} {p : Progr
 
     -- a unit that is not rewritten is the array's
     old-unit : (u : ℕ) → u * unitBytes < length ys → Each (λ r. u ≡ r .unit → ⊥) rs → UnitIs (unitPart u ys) (inspectUnit v (c .object) (length ys) u)
-    old-unit u l n = test-cases (UnitIs (unitPart u ys) (inspectUnit v (c .object) (length ys) u)) (member u us) (λ m. among (planned-at (d .planned) u m)) (λ m. rest (d .units .rest u m .0) (d .units .rest u m .1))
+    old-unit u l n = test-cases (UnitIs (unitPart u ys) (inspectUnit v (c .object) (length ys) u)) (member u us) (λ m. among (planned-at (told .planned) u m)) (λ m. rest (told .units .rest u m .0) (told .units .rest u m .1))
       where
         among : ((r : Rewritten) × List·Memᴰ r rs × (r .unit ≡ u)) ⊎ StaysHole v c ys u → UnitIs (unitPart u ys) (inspectUnit v (c .object) (length ys) u)
         among (inl r) = absurd (each-mem n (r .1) (sym (r .2)))
@@ -167,10 +162,10 @@ module _ {v : Volume} {c : Change} {xs ys : List ℕ} {us : List ℕ} {p : Progr
 
         rest : touches c u ≡ false → (validLength (c .oldSize) u ≡ validLength (c .newSize) u) ⊎ (c .oldSize ≤ u * unitBytes) → UnitIs (unitPart u ys) (inspectUnit v (c .object) (length ys) u)
         rest t (inr z) =
-            rw (past-hole u (length ys) z) (is-hole (untouched-zeros c xs ys (d .becomes) u t (λ j m. List·getD-eq-default xs 0 {n = u * unitBytes + j} (omega (arith, d .becomes .old)))))
+            rw (past-hole u (length ys) z) (is-hole (untouched-zeros c xs ys (told .becomes) u t (λ j m. List·getD-eq-default xs 0 {n = u * unitBytes + j} (omega (arith, told .becomes .old)))))
         rest t (inl e) =
-            let z : unitPart u ys ≡ unitPart u xs = untouched-part c xs ys (d .becomes) u t e in
-            let g : validLength (length ys) u ≡ validLength (length xs) u = ap (λ (n : ℕ). validLength n u) (sym (d .becomes .new)) ∙ sym e ∙ ap (λ (n : ℕ). validLength n u) (d .becomes .old) in
+            let z : unitPart u ys ≡ unitPart u xs = untouched-part c xs ys (told .becomes) u t e in
+            let g : validLength (length ys) u ≡ validLength (length xs) u = ap (λ (n : ℕ). validLength n u) (sym (told .becomes .new)) ∙ sym e ∙ ap (λ (n : ℕ). validLength n u) (told .becomes .old) in
             let m : u * unitBytes < length xs = valid-inside (length ys) (length xs) u g l in
             rw (z, inspect-valid v (c .object) (length ys) (length xs) u g) (file u m)
 
@@ -181,16 +176,16 @@ module _ {v : Volume} {c : Change} {xs ys : List ℕ} {us : List ℕ} {p : Progr
         go : ((r : Rewritten) × List·Memᴰ r rs × (r .unit ≡ u)) ⊎ Each (λ r. u ≡ r .unit → ⊥) rs → UnitIs (unitPart u ys) (inspectUnit w (c .object) (length ys) u)
         go (inl r) =
             let e : inspectUnit w (c .object) (length ys) u ≡ checked (unitPart u ys) =
-            ap (λ (n : ℕ). inspectUnit w (c .object) n u) (sym (d .becomes .new)) ∙ ap (inspectUnit w (c .object) (c .newSize)) (sym (r .2)) ∙ unit-new d time (r .0) (r .1) ∙ ap (λ (n : ℕ). checked (unitPart n ys)) (r .2) in
+            ap (λ (n : ℕ). inspectUnit w (c .object) n u) (sym (told .becomes .new)) ∙ ap (inspectUnit w (c .object) (c .newSize)) (sym (r .2)) ∙ unit-new d time q told (r .0) (r .1) ∙ ap (λ (n : ℕ). checked (unitPart n ys)) (r .2) in
             rw e (is-checked refl)
-        go (inr n) = rw (inspect-unit-same w v (c .object) (length ys) u (unit-stays d time (c .object) u (λ e. n))) (old-unit u l n)
+        go (inr n) = rw (inspect-unit-same w v (c .object) (length ys) u (unit-stays d time q (c .object) u (λ e. n))) (old-unit u l n)
 
     -- its card says its size
     object-after′ : ObjectIs w (c .object) ys
     object-after′ e h =
         let z : e ≡ newCard′ = Option·some-injective e newCard′ (sym h ∙ card-found) in
-        let s : e .size ≡ length ys = ap (λ (x : Card). x .size) z ∙ size-mine c (q .allocated) time (k .card) card-object ∙ d .becomes .new in
-        let o : e .object ≡ c .object = ap (λ (x : Card). x .object) z ∙ object-mine c (q .allocated) time (k .card) card-object ∙ card-object in
+        let s : e .size ≡ length ys = ap (λ (x : Card). x .size) z ∙ size-mine c (q .allocated) time card card-object ∙ told .becomes .new in
+        let o : e .object ≡ c .object = ap (λ (x : Card). x .object) z ∙ object-mine c (q .allocated) time card card-object ∙ card-object in
         (s, rw o file-after)
 
   -- another file stays
@@ -199,7 +194,7 @@ module _ {v : Volume} {c : Change} {xs ys : List ℕ} {us : List ℕ} {p : Progr
       let b : cardOf v o ≡ some e = sym (card-other′ o n) ∙ t in
       let r = h e b in
       let z : e .object ≡ o = card-of-object v o e b in
-      (r .0, λ u l. rw (inspect-unit-same w v (e .object) (length zs) u (unit-stays d time (e .object) u (λ y. absurd (n (sym z ∙ y))))) (r .1 u l))
+      (r .0, λ u l. rw (inspect-unit-same w v (e .object) (length zs) u (unit-stays d time q (e .object) u (λ y. absurd (n (sym z ∙ y))))) (r .1 u l))
 
   -- ---- the places
 
@@ -207,7 +202,7 @@ module _ {v : Volume} {c : Change} {xs ys : List ℕ} {us : List ℕ} {p : Progr
   file-count : filePlaces w (c .object) + length (supersededBlocks rs) ≡ filePlaces v (c .object) + length (newBlocks rs)
   unfolding filePlaces places finished
   file-count =
-      let e = balance v c ys (λ x. true) (λ o. eqb o (c .object)) rs (apart-old d) (eq-eqb (c .object) (c .object) refl) (made-all d) (in-order d) in
+      let e = balance v c (λ x. true) (λ o. eqb o (c .object)) rs (apart-old d) (eq-eqb (c .object) (c .object) refl) (d .made) (d .order) in
       omega (arith, e, count-all (supersededBlocks rs), count-all (newBlocks rs), plain (flatMap placesOf (v .books .extents)), plain (flatMap placesOf (finishedExtents (c .object) rs (v .books .extents))))
     where
       plain : (ps : List Place) → count (λ x. eqb (x .object) (c .object) && true) ps ≡ count (λ x. eqb (x .object) (c .object)) ps
@@ -217,7 +212,7 @@ module _ {v : Volume} {c : Change} {xs ys : List ℕ} {us : List ℕ} {p : Progr
   other-count : (o : ℕ) → (o ≡ c .object → ⊥) → filePlaces w o ≡ filePlaces v o
   unfolding filePlaces places finished
   other-count o n =
-      let e = balance-other v c ys (λ x. true) (λ a. eqb a o) rs (apart-old d) (ne-eqb (c .object) o (λ z. n (sym z))) in
+      let e = balance-other v c (λ x. true) (λ a. eqb a o) rs (apart-old d) (ne-eqb (c .object) o (λ z. n (sym z))) in
       omega (arith, e, plain (flatMap placesOf (v .books .extents)), plain (flatMap placesOf (finishedExtents (c .object) rs (v .books .extents))))
     where
       plain : (ps : List Place) → count (λ x. eqb (x .object) o && true) ps ≡ count (λ x. eqb (x .object) o) ps
@@ -232,16 +227,16 @@ module _ {v : Volume} {c : Change} {xs ys : List ℕ} {us : List ℕ} {p : Progr
     where
       one : (x : Card) → List·Memᴰ x (v .books .cards) → Dec (x .object ≡ c .object) → moved x .allocated ≡ filePlaces w (moved x .object)
       one x i (yes z) =
-          let a : x .allocated ≡ k .card .allocated = ap (λ (y : Card). y .allocated) (each-mem (only-card d k) i z) in
+          let a : x .allocated ≡ card .allocated = ap (λ (y : Card). y .allocated) (each-mem (only-card d k) i z) in
           let b : x .allocated ≡ filePlaces v (c .object) = h x i ∙ ap (filePlaces v) z in
-          rw (allocated-mine c (q .allocated) time x z, object-mine c (q .allocated) time x z, z) (omega (arith, a, b, start, file-count, planned-count (d .planned) (k .enough)))
+          rw (allocated-mine c (q .allocated) time x z, object-mine c (q .allocated) time x z, z) (omega (arith, a, b, start, file-count, planned-count (told .planned)))
       one x i (no n) = rw (card-theirs c (q .allocated) time x n) (h x i ∙ sym (other-count (x .object) n))
 
   -- ---- all
 
   -- what is said of the blocks stays right
-  pub blocks-after : BlocksAgree reserved v → BlocksAgree reserved w
-  blocks-after a = record { given = unfold finished in a .given; onePlace = λ b l. holders-after d reserved (k .onePlace) time b (unfold finished in l) }
+  pub blocks-after : {reserved : ℕ} → BlocksAgree reserved v → BlocksAgree reserved w
+  blocks-after {reserved} a = record { given = unfold finished in a .given; onePlace = λ b l. holders-after d time q reserved b (a .onePlace b (unfold finished in l)) }
 
   -- and what is said of the files
   pub files-after : (files : List File) (f : List ℕ → List ℕ) → f xs ≡ ys → fileBytes files (c .object) ≡ some xs → FilesAgree files v → FilesAgree (change (c .object) f files) w
@@ -256,10 +251,10 @@ module _ {v : Volume} {c : Change} {xs ys : List ℕ} {us : List ℕ} {p : Progr
       new = bytes-mine (c .object) f files xs known ∙ ap some y
 
       file : FileIs v (c .object) xs
-      file = rw card-object at (a .bytes (c .object) xs known (k .card) (k .known) .1)
+      file = rw card-object at (a .bytes (c .object) xs known card (k .known) .1)
 
       past : (u : ℕ) → c .oldSize ≤ u * unitBytes → checksumOf v (c .object) u ≡ none
-      past u l = a .slots (c .object) u (λ e h. let z : e ≡ k .card = Option·some-injective e (k .card) (sym h ∙ k .known) in omega (arith, l, k .size, ap (λ (x : Card). x .size) z))
+      past u l = a .slots (c .object) u (λ e h. let z : e ≡ card = Option·some-injective e card (sym h ∙ k .known) in omega (arith, l, k .size, ap (λ (x : Card). x .size) z))
 
       objects : (o : ℕ) → Dec (o ≡ c .object) → given (fileBytes (change (c .object) f files) o) ≡ given (cardOf w o)
       objects o (yes e) = rw (e, new, card-found) (unfold given in refl)
@@ -273,6 +268,6 @@ module _ {v : Volume} {c : Change} {xs ys : List ℕ} {us : List ℕ} {p : Progr
 
       slots : (o u : ℕ) → Past w o u → Dec (o ≡ c .object) → checksumOf w o u ≡ none
       slots o u h (yes e) =
-          let m : c .newSize ≤ u * unitBytes = omega (arith, h newCard′ (rw e card-found), size-mine c (q .allocated) time (k .card) card-object) in
-          rw e (unit-stays d time (c .object) u (λ z. each-weaken (λ r i y. omega (arith, i .inside, m)) (made-all d)) .slot ∙ past u (omega (arith, m, d .becomes .old, d .becomes .new, d .becomes .more)))
-      slots o u h (no n) = unit-stays d time o u (λ z. absurd (n z)) .slot ∙ a .slots o u (λ e t. h e (card-other′ o n ∙ t))
+          let m : c .newSize ≤ u * unitBytes = omega (arith, h newCard′ (rw e card-found), size-mine c (q .allocated) time card card-object) in
+          rw e (unit-stays d time q (c .object) u (λ z. each-weaken (λ r i y. omega (arith, i .inside, m)) (d .made)) .slot ∙ past u (omega (arith, m, told .becomes .old, told .becomes .new, told .becomes .more)))
+      slots o u h (no n) = unit-stays d time q o u (λ z. absurd (n z)) .slot ∙ a .slots o u (λ e t. h e (card-other′ o n ∙ t))

@@ -55,17 +55,17 @@ unfoldable keptIn : List Rewritten → List ℕ
 keptIn [] = []
 keptIn (r ∷ rs) = there (r .kept) ++ keptIn rs
 
-module _ (v : Volume) (c : Change) (ys : List ℕ) (g h : ℕ → Bool) where
+module _ (v : Volume) (c : Change) (g h : ℕ → Bool) where
   -- the place is of a file that is meant, and its block passes
   abbrev meant : Place → Bool
   meant p = h (p .object) && g (p .block)
 
   -- what the units had are the superseded and the kept blocks
-  count-gone : {rs : List Rewritten} → Each (Made v c ys) rs → total (λ u. count g (there (unitOld v c u))) (unitsIn rs) ≡ count g (supersededBlocks rs) + count g (keptIn rs)
+  count-gone : {rs : List Rewritten} → Each (Made v c) rs → total (λ u. count g (there (unitOld v c u))) (unitsIn rs) ≡ count g (supersededBlocks rs) + count g (keptIn rs)
   unfolding total keptIn
   count-gone each-none = unfold supersededBlocks flatMap in omega (arith, count-nil g)
   count-gone (each-more {x = r} {xs = rs} m k) =
-      let d = m .right in
+      let d = m .placed in
       let e : count g (there (unitOld v c (r .unit))) ≡ count g (r .superseded) + count g (there (r .kept)) =
       count-superseded g (unitOld v c (r .unit)) (r .kept) (d .keeps) (omega (arith, d .wide, length-old v c (r .unit), valid-blocks (c .newSize) (r .unit)))
       ∙ ap (λ (xs : List ℕ). count g xs + count g (there (r .kept))) (sym (d .gone)) in
@@ -80,11 +80,11 @@ module _ (v : Volume) (c : Change) (ys : List ℕ) (g h : ℕ → Bool) where
       count-cons meant _ (blockPlaces object (suc l) bs) ∙ (rw (t, count-behind object t (suc l) bs) (sym (count-cons g b bs)))
 
   -- what they have are the new and the kept blocks
-  count-made : (object : ℕ) → h object ≡ true → {rs : List Rewritten} → Each (Made v c ys) rs → count meant (newPlaces object rs) ≡ count g (newBlocks rs) + count g (keptIn rs)
+  count-made : (object : ℕ) → h object ≡ true → {rs : List Rewritten} → Each (Made v c) rs → count meant (newPlaces object rs) ≡ count g (newBlocks rs) + count g (keptIn rs)
   unfolding newPlaces keptIn
   count-made object t each-none = unfold newBlocks flatMap in omega (arith, count-nil g, count-nil meant)
   count-made object t (each-more {x = r} {xs = rs} m k) =
-      let d = m .right .laid in
+      let d = m .placed .laid in
       let e : count g (r .blocks) ≡ count g (r .new) + count g (there (r .kept)) = ap (count g) (d .blocks) ∙ count-assigned g (r .kept) (r .new) (d .many) in
       let i : count meant (newPlaces object rs) ≡ count g (newBlocks rs) + count g (keptIn rs) = count-made object t k in
       rw (new-cons r rs) (omega (
@@ -129,7 +129,7 @@ module _ (v : Volume) (c : Change) (ys : List ℕ) (g h : ℕ → Bool) where
         (λ e. rw e refl)
 
     -- those before are those outside, the superseded and the kept
-    split : h (c .object) ≡ true → Each (Made v c ys) rs → ascending unitBefore rs ≡ true
+    split : h (c .object) ≡ true → Each (Made v c) rs → ascending unitBefore rs ≡ true
         → count meant ps ≡ count meant (filter spares ps) + (count g (supersededBlocks rs) + count g (keptIn rs))
     split t m o =
         count-parts meant spares ps
@@ -138,12 +138,12 @@ module _ (v : Volume) (c : Change) (ys : List ℕ) (g h : ℕ → Bool) where
         ∙ count-units g (c .object) (laid-of (v .books .extents) a .ahead) (unitsIn rs) (once-ascending (unitsIn rs) (ascending-units rs o)) ∙ (unfold unitMapping in count-gone m))
 
     -- meant places after the change
-    pub balance : h (c .object) ≡ true → Each (Made v c ys) rs → ascending unitBefore rs ≡ true
+    pub balance : h (c .object) ≡ true → Each (Made v c) rs → ascending unitBefore rs ≡ true
         → count meant (flatMap placesOf (finishedExtents (c .object) rs (v .books .extents))) + count g (supersededBlocks rs) ≡ count meant ps + count g (newBlocks rs)
     balance t m o = omega (arith, places-after (c .object) rs (v .books .extents) meant, split t m o, count-made (c .object) t m)
 
     -- superseded blocks were places
-    pub superseded-places : h (c .object) ≡ true → Each (Made v c ys) rs → ascending unitBefore rs ≡ true → count g (supersededBlocks rs) ≤ count meant ps
+    pub superseded-places : h (c .object) ≡ true → Each (Made v c) rs → ascending unitBefore rs ≡ true → count g (supersededBlocks rs) ≤ count meant ps
     superseded-places t m o = omega (arith, split t m o)
 
     -- places of other files stay

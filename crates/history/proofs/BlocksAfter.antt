@@ -1,4 +1,4 @@
--- The device's blocks after a change: every block is in one place, and the maps keep their rules.
+-- The device's blocks after a change: none gets a second place, each is in one place where it was, and the maps keep their rules.
 -- Assumes nothing.
 use mathlib.Core.Path.{_≡_, refl, sym, ap, subst, _∙_}
 use mathlib.Core.List.{List, [], _∷_, flatMap, List·Memᴰ}
@@ -8,9 +8,9 @@ use Prim.Native.Nat.{ℕ, suc, _+_, _*_, _≤_, _<_}
 use native.Mathlib.Nat.{zero-add}
 use native.Mathlib.Decide.{decLt}
 use native.Mathlib.Omega.{arith}
-use lib.Dec.{eqb, ltb, leb}
+use lib.Dec.{eqb, leb}
 use lib.ListN.{length, getD}
-use borrow.Author.Tests.{eq-eqb, ltb-true, leb-true, le-leb, not-true}
+use borrow.Author.Tests.{eq-eqb, ltb-true, ltb-false, lt-ltb, leb-true, le-leb, not-true}
 use Rattle.rules.specs.Time.{Time}
 use Rattle.rules.specs.Lists.{if_then_else_, count, member}
 use Rattle.rules.specs.Sizes.{unitBlocks}
@@ -32,9 +32,9 @@ use Rattle.history.proofs.ExtentsFromPlaces.{mapped-places}
 use Rattle.history.proofs.ImageAfter.{LaidOut, assigned-new}
 use Rattle.rules.proofs.KeptLaws.{length-assigned, assigned-kept}
 use Rattle.history.proofs.UnitLaws.{getD-mapped, valid-blocks}
-use Rattle.history.proofs.PlannedLaws.{Made, made-blocks, planned-free, planned-once}
+use Rattle.history.proofs.PlannedLaws.{Made, made-blocks}
 use Rattle.history.proofs.BalanceLaws.{balance, superseded-places}
-use Rattle.history.proofs.AfterUnits.{Carrying, made-all, in-order, apart-old, mapping-all}
+use Rattle.history.proofs.AfterUnits.{Carrying, apart-old, mapping-all}
 use Rattle.history.proofs.MoreLists.{all-counted, count-turn, counted-once, each-mem, each-of-mem, mem-counted}
 
 -- ---- places
@@ -80,19 +80,7 @@ tally-retired true false h = refl
 tally-retired false true h = refl
 tally-retired false false h = refl
 
--- a tally of nothing
-tally-none : (t : Bool) → _≡_ {A = ℕ} (if t then 1 else 0) 0 → t ≡ false
-unfolding if_then_else_
-tally-none true e = absurd (omega arith)
-tally-none false e = refl
-
--- and one of nothing left
-tally-all : (t : Bool) → _≡_ {A = ℕ} (if t then 0 else 1) 0 → t ≡ true
-unfolding if_then_else_
-tally-all true e = refl
-tally-all false e = absurd (omega arith)
-
-module _ {v : Volume} {c : Change} {xs ys : List ℕ} {us : List ℕ} {p : Progress} {rs : List Rewritten} {q : Progress} (d : Carrying v c xs ys us p rs q) where
+module _ {v : Volume} {c : Change} {rs : List Rewritten} (d : Carrying v c rs) where
   -- each place's block is such
   places-mappable : Each (λ x. mappable v (x .block) ≡ true) (flatMap placesOf (v .books .extents))
   places-mappable = each-all (λ x. mappable v (x .block)) (λ x t. t) (flatMap placesOf (v .books .extents)) (sym (mapped-places (mappable v) (v .books .extents)) ∙ mapped-all v (d .lawful .mapped))
@@ -121,33 +109,66 @@ module _ {v : Volume} {c : Change} {xs ys : List ℕ} {us : List ℕ} {p : Progr
   reserved-used : (b : ℕ) → b < v .reserved → (v .used b && not (v .retired b)) ≡ true
   reserved-used b l = rw (zero-add b) at (all-range-at (λ n. v .used n && not (v .retired n)) 0 (v .reserved) (unfold reservedRight in d .lawful .reserved) b l)
 
+  -- how many places have a block
+  abbrev placed-before : ℕ → ℕ
+  placed-before b = count (λ x. eqb (x .block) b) (flatMap placesOf (v .books .extents))
+
+  -- and how many after the change
+  abbrev placed-after : ℕ → ℕ
+  placed-after b = count (λ x. eqb (x .block) b) (flatMap placesOf (finishedExtents (c .object) rs (v .books .extents)))
+
+  -- a block that has a place is such
+  placed-mappable : (b : ℕ) → 0 < placed-before b → mappable v b ≡ true
+  placed-mappable b = all-counted (λ x. x .block) (mappable v) b places-mappable
+
   -- superseded blocks are counted among the places
-  superseded-counted : (b : ℕ) → count (eqb b) (supersededBlocks rs) ≤ count (λ x. eqb (x .block) b) (flatMap placesOf (v .books .extents))
-  superseded-counted b = omega (arith, superseded-places v c ys (λ x. eqb x b) (λ o. true) rs (apart-old d) refl (made-all d) (in-order d), count-turn b (supersededBlocks rs))
+  superseded-counted : (b : ℕ) → count (eqb b) (supersededBlocks rs) ≤ placed-before b
+  superseded-counted b = omega (arith, superseded-places v c (λ x. eqb x b) (λ o. true) rs (apart-old d) refl (d .made) (d .order), count-turn b (supersededBlocks rs))
 
-  -- a superseded block was mapped
+  -- a superseded block is counted
+  superseded-some : (b : ℕ) → member b (supersededBlocks rs) ≡ true → 0 < count (eqb b) (supersededBlocks rs)
+  superseded-some b m = ltb-true 0 (count (eqb b) (supersededBlocks rs)) (sym (member-count b (supersededBlocks rs)) ∙ m)
+
+  -- and was mapped
   superseded-mapped : (b : ℕ) → member b (supersededBlocks rs) ≡ true → mappable v b ≡ true
-  superseded-mapped b m =
-      all-counted (λ x. x .block) (mappable v) b places-mappable
-      (omega (arith, superseded-counted b, ltb-true 0 (count (eqb b) (supersededBlocks rs)) (sym (member-count b (supersededBlocks rs)) ∙ m)))
+  superseded-mapped b m = placed-mappable b (omega (arith, superseded-counted b, superseded-some b m))
 
-  -- a new block was not used
-  new-unused : (b : ℕ) → member b (newBlocks rs) ≡ true → v .used b ≡ false
-  new-unused b m = planned-free (d .planned) b m .unused
+  -- a used block is not new
+  new-none : (b : ℕ) → v .used b ≡ true → count (eqb b) (newBlocks rs) ≡ 0
+  new-none b u =
+      test-cases (count (eqb b) (newBlocks rs) ≡ 0) (member b (newBlocks rs)) (λ m. absurd (clash (d .free b m .1) u))
+      (λ m. omega (arith, ltb-false 0 (count (eqb b) (newBlocks rs)) (sym (member-count b (newBlocks rs)) ∙ m)))
+
+  -- a block's places lose it where it is superseded and gain it where it is new
+  balance-at : (b : ℕ) → placed-after b + count (eqb b) (supersededBlocks rs) ≡ placed-before b + count (eqb b) (newBlocks rs)
+  balance-at b = omega (arith, balance v c (λ x. eqb x b) (λ o. true) rs (apart-old d) refl (d .made) (d .order), count-turn b (newBlocks rs), count-turn b (supersededBlocks rs))
+
+  -- a block that is not used has no place
+  placed-none : (b : ℕ) → v .used b ≡ false → placed-before b ≡ 0
+  placed-none b u = go (decLt 0 (placed-before b))
+    where
+      go : Dec (0 < placed-before b) → placed-before b ≡ 0
+      go (yes l) = absurd (clash u (mappable-used b (placed-mappable b l)))
+      go (no l) = omega arith
+
+  -- a block that has one place at most has no more after the change
+  pub unshared-after : (b : ℕ) → placed-before b ≤ 1 → placed-after b ≤ 1
+  unshared-after b l =
+      test-cases (placed-after b ≤ 1) (v .used b) (λ u. omega (arith, balance-at b, new-none b u)) (λ u. omega (arith, balance-at b, placed-none b u, d .once b))
 
   -- each block of a rewritten unit is
-  made-sited : (r : Rewritten) → Made v c ys r → (i : ℕ) → i < length (r .blocks) → Sited v (getD (r .blocks) i 0)
+  made-sited : (r : Rewritten) → Made v c r → (i : ℕ) → i < length (r .blocks) → Sited v (getD (r .blocks) i 0)
   made-sited r m i l = go (getD (r .kept) i none) refl
     where
       k : LaidOut (v .blocks) r
-      k = m .right .laid
+      k = m .placed .laid
 
       long : length (r .blocks) ≡ length (r .kept)
       long = ap length (k .blocks) ∙ length-assigned (r .kept) (r .new) (k .many)
 
       free : (b : ℕ) → member b (r .new) ≡ true → Sited v b
       free b t =
-          let f = member-each (λ b. (b < v .blocks) × (v .used b ≡ false) × (member b (m .found .taken) ≡ false)) (m .right .free) b t in
+          let f = member-each (λ b. (b < v .blocks) × (v .used b ≡ false) × (member b (m .found .taken) ≡ false)) (m .placed .free) b t in
           record { below = f .0; past = late b (f .1) (decLt b (v .reserved)) }
         where
           late : (b : ℕ) → v .used b ≡ false → Dec (b < v .reserved) → v .reserved ≤ b
@@ -159,38 +180,54 @@ module _ {v : Volume} {c : Change} {xs ys : List ℕ} {us : List ℕ} {p : Progr
       go (some b) e =
           let n : getD (r .blocks) i 0 ≡ b = ap (λ (bs : List ℕ). getD bs i 0) (k .blocks) ∙ assigned-kept (r .kept) (r .new) (k .many) i b e in
           let o : mapping (v .books .extents) (c .object) (r .unit * unitBlocks + i) ≡ some b =
-          sym (getD-mapped v (c .object) (r .unit) unitBlocks i (omega (arith, made-blocks m, valid-blocks (c .newSize) (r .unit)))) ∙ m .right .keeps i b e in
+          sym (getD-mapped v (c .object) (r .unit) unitBlocks i (omega (arith, made-blocks m, valid-blocks (c .newSize) (r .unit)))) ∙ m .placed .keeps i b e in
           let t : mappable v b ≡ true = mapping-all (mappable v) (v .books .extents) (mapped-all v (d .lawful .mapped)) (c .object) (r .unit * unitBlocks + i) b o in
           rw n (record { below = used-below b (mappable-used b t); past = mappable-past b t })
 
   -- each new place's block is
   pub new-sited : Each (λ x. Sited v (x .block)) (newPlaces (c .object) rs)
-  new-sited = each-newPlaces (c .object) (each-weaken (λ r m i l. made-sited r m i l) (made-all d))
+  new-sited = each-newPlaces (c .object) (each-weaken (λ r m i l. made-sited r m i l) (d .made))
 
-  module _ (reserved : ℕ) (one : (b : ℕ) → b < v .blocks → holders reserved v b ≡ 1) (time : Time) where
-    -- the places after the change
-    abbrev after-places : List Place
-    after-places = flatMap placesOf (finishedExtents (c .object) rs (v .books .extents))
+  -- the places after the change
+  abbrev after-places : List Place
+  after-places = flatMap placesOf (finishedExtents (c .object) rs (v .books .extents))
 
-    -- the used blocks after it
-    abbrev used′ : ℕ → Bool
-    used′ n = v .used n || member n (newBlocks rs)
+  -- the used blocks after it
+  abbrev used′ : ℕ → Bool
+  used′ n = v .used n || member n (newBlocks rs)
 
-    -- the retired blocks after it
-    abbrev retired′ : ℕ → Bool
-    retired′ n = v .retired n || member n (supersededBlocks rs)
+  -- the retired blocks after it
+  abbrev retired′ : ℕ → Bool
+  retired′ n = v .retired n || member n (supersededBlocks rs)
 
-    -- every block is in one place
-    pub holders-after : (b : ℕ) → b < v .blocks → holders reserved (finished c time rs q v) b ≡ 1
+  -- a block that has a place after it is used
+  placed-used : (b : ℕ) → 0 < placed-after b → used′ b ≡ true
+  placed-used b l =
+      test-cases (used′ b ≡ true) (v .used b) (λ u. or-left (v .used b) (member b (newBlocks rs)) u)
+      (λ u. or-right (v .used b) (member b (newBlocks rs)) (member-count b (newBlocks rs) ∙ lt-ltb 0 (count (eqb b) (newBlocks rs)) (omega (arith, balance-at b, placed-none b u, l))))
+
+  -- and is not retired, where it had one place at most: a superseded block has lost that
+  placed-kept : (b : ℕ) → placed-before b ≤ 1 → 0 < placed-after b → retired′ b ≡ false
+  placed-kept b one l = test-cases (retired′ b ≡ false) (retired′ b) (λ t. absurd (or-cases ⊥ (v .retired b) (member b (supersededBlocks rs)) t was now)) (λ t. t)
+    where
+      was : v .retired b ≡ true → ⊥
+      was e =
+          let n : count (eqb b) (newBlocks rs) ≡ 0 = new-none b (retired-used v (d .lawful) b e) in
+          clash (mappable-kept b (placed-mappable b (omega (arith, balance-at b, n, l)))) e
+
+      now : member b (supersededBlocks rs) ≡ true → ⊥
+      now m = omega (arith, balance-at b, superseded-some b m, new-none b (mappable-used b (superseded-mapped b m)), one, l)
+
+  module _ (time : Time) (q : Progress) where
+    -- every block is in one place, where it was
+    pub holders-after : (reserved b : ℕ) → holders reserved v b ≡ 1 → holders reserved (finished c time rs q v) b ≡ 1
     unfolding holders finished places
-    holders-after b l =
-        let h : (if ltb b reserved then 1 else 0) + (if v .used b then 0 else 1) + (if v .retired b then 1 else 0) + count (λ x. eqb (x .block) b) (flatMap placesOf (v .books .extents)) ≡ 1 = one b l in
-        let e = balance v c ys (λ x. eqb x b) (λ o. true) rs (apart-old d) refl (made-all d) (in-order d) in
-        let n : count (eqb b) (newBlocks rs) ≡ (if member b (newBlocks rs) then 1 else 0) = counted-once b (newBlocks rs) (planned-once (d .planned) b) in
+    holders-after reserved b h =
+        let n : count (eqb b) (newBlocks rs) ≡ (if member b (newBlocks rs) then 1 else 0) = counted-once b (newBlocks rs) (d .once b) in
         let s : count (eqb b) (supersededBlocks rs) ≡ (if member b (supersededBlocks rs) then 1 else 0) = counted-once b (supersededBlocks rs) (omega (arith, superseded-counted b)) in
-        let t = tally-used (v .used b) (member b (newBlocks rs)) (new-unused b) in
+        let t = tally-used (v .used b) (member b (newBlocks rs)) (λ m. d .free b m .1) in
         let r = tally-retired (v .retired b) (member b (supersededBlocks rs)) (λ m. mappable-kept b (superseded-mapped b m)) in
-        omega (arith, h, e, n, s, t, r, count-turn b (newBlocks rs), count-turn b (supersededBlocks rs))
+        omega (arith, h, balance-at b, n, s, t, r)
 
     -- what a block of a place is after
     abbrev fit′ : ℕ → Bool
@@ -203,21 +240,18 @@ module _ {v : Volume} {c : Change} {xs ys : List ℕ} {us : List ℕ} {p : Progr
         (each-filter (λ x. not (eqb (x .object) (c .object)) || outside rs (x .logical)) (each-weaken (λ x t. record { below = used-below (x .block) (mappable-used (x .block) t); past = mappable-past (x .block) t }) places-mappable))
         new-sited
 
-    -- mapped blocks keep the rule
-    pub mapped-after-right : mappedRight (finished c time rs q v) ≡ true
+    -- mapped blocks keep the rule, where each was at one place at most
+    pub mapped-after-right : ((b : ℕ) → b < v .blocks → placed-before b ≤ 1) → mappedRight (finished c time rs q v) ≡ true
     unfolding finished
-    mapped-after-right = all-mapped (finished c time rs q v) (
+    mapped-after-right one = all-mapped (finished c time rs q v) (
         mapped-places fit′ (finishedExtents (c .object) rs (v .books .extents))
         ∙ all-each (λ x. fit′ (x .block)) (each-of-mem after-places (λ x m. fits x m (each-mem sited-after m))))
       where
         fits : (x : Place) → List·Memᴰ x after-places → Sited v (x .block) → fit′ (x .block) ≡ true
         fits x m s =
             let b : ℕ = x .block in
-            let h : (if ltb b reserved then 1 else 0) + (if used′ b then 0 else 1) + (if retired′ b then 1 else 0) + count (λ x. eqb (x .block) b) after-places ≡ 1 = unfold holders finished places in holders-after b (s .below) in
-            let n : 0 < count (λ x. eqb (x .block) b) after-places = mem-counted (λ x. eqb (x .block) b) after-places m (eq-eqb b b refl) in
-            let u : used′ b ≡ true = tally-all (used′ b) (omega (arith, h, n)) in
-            let r : retired′ b ≡ false = tally-none (retired′ b) (omega (arith, h, n)) in
-            and-intro (used′ b && not (retired′ b)) (leb (v .reserved) b) (and-intro (used′ b) (not (retired′ b)) u (ap not r)) (le-leb (v .reserved) b (s .past))
+            let n : 0 < placed-after b = mem-counted (λ x. eqb (x .block) b) after-places m (eq-eqb b b refl) in
+            and-intro (used′ b && not (retired′ b)) (leb (v .reserved) b) (and-intro (used′ b) (not (retired′ b)) (placed-used b n) (ap not (placed-kept b (one b (s .below)) n))) (le-leb (v .reserved) b (s .past))
 
     -- reserved blocks keep the rule
     pub reserved-after : reservedRight (finished c time rs q v) ≡ true
@@ -248,15 +282,15 @@ module _ {v : Volume} {c : Change} {xs ys : List ℕ} {us : List ℕ} {p : Progr
         keeps : (b : ℕ) → (not (retired′ b) || used′ b) ≡ true
         keeps b = test-cases ((not (retired′ b) || used′ b) ≡ true) (retired′ b) (λ t. or-right (not (retired′ b)) (used′ b) (used b t)) (λ t. or-left (not (retired′ b)) (used′ b) (ap not t))
 
-    -- no block past the device is used
-    pub used-past : (n : ℕ) → v .blocks ≤ n → used′ n ≡ false
-    used-past n l =
-        test-cases (used′ n ≡ false) (used′ n)
-        (λ t. absurd (or-cases ⊥ (v .used n) (member n (newBlocks rs)) t (λ e. clash (d .lawful .usedPast n l) e) (λ e. omega (arith, planned-free (d .planned) n e .below)))) (λ t. t)
+  -- no block past the device is used
+  pub used-past : (n : ℕ) → v .blocks ≤ n → used′ n ≡ false
+  used-past n l =
+      test-cases (used′ n ≡ false) (used′ n)
+      (λ t. absurd (or-cases ⊥ (v .used n) (member n (newBlocks rs)) t (λ e. clash (d .lawful .usedPast n l) e) (λ e. omega (arith, d .free n e .0)))) (λ t. t)
 
-    -- no block past the device is retired
-    pub retired-past : (n : ℕ) → v .blocks ≤ n → retired′ n ≡ false
-    retired-past n l =
-        test-cases (retired′ n ≡ false) (retired′ n)
-        (λ t. absurd (or-cases ⊥ (v .retired n) (member n (supersededBlocks rs)) t (λ e. clash (d .lawful .retiredPast n l) e)
-        (λ e. clash (d .lawful .usedPast n l) (mappable-used n (superseded-mapped n e))))) (λ t. t)
+  -- no block past the device is retired
+  pub retired-past : (n : ℕ) → v .blocks ≤ n → retired′ n ≡ false
+  retired-past n l =
+      test-cases (retired′ n ≡ false) (retired′ n)
+      (λ t. absurd (or-cases ⊥ (v .retired n) (member n (supersededBlocks rs)) t (λ e. clash (d .lawful .retiredPast n l) e)
+      (λ e. clash (d .lawful .usedPast n l) (mappable-used n (superseded-mapped n e))))) (λ t. t)

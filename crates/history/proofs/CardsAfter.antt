@@ -14,12 +14,18 @@ use Rattle.rules.specs.Lists.{if_then_else_, maybe, all, find, ascending, begun
 use Rattle.rules.specs.Sizes.{blockBytes, nanosecondsBound}
 use Rattle.rules.specs.Card.{Card, cardBefore}
 use Rattle.rules.specs.Extent.{Extent, extentEnd}
+use Rattle.rules.specs.Store.{Volume, cardOf}
 use Rattle.rules.specs.Integrity.{inFile, cardTimesRight}
 use Rattle.rules.specs.Units.{Change}
 use Rattle.rules.specs.Finish.{finishedCards, changedCard}
-use Rattle.rules.proofs.ListLaws.{test-cases, if-true, if-false, if-cases, maybe-some, maybe-none, and-left, and-right, and-intro, all-map, all-weaken, any-map, find-yes, find-no, ascending-tail, ascending-all, Each, each-none, each-more, each-map, each-all, each-weaken}
+use Rattle.rules.proofs.ListLaws.{test-cases, if-true, if-false, if-cases, maybe-some, maybe-none, and-left, and-right, and-intro, all-map, all-weaken, any-map, find-yes, find-no, find-passes, ascending-tail, ascending-all, Each, each-none, each-more, each-map, each-all, each-weaken}
 use Rattle.rules.proofs.CardLaws.{CardFits}
 use Rattle.history.proofs.MoreLists.{any-each, ascending-through, find-through}
+
+-- a card that is found is of its object
+pub card-of-object : (v : Volume) (o : ℕ) (e : Card) → cardOf v o ≡ some e → e .object ≡ o
+unfolding cardOf
+card-of-object v o e h = eqb-true (e .object) o (find-passes (λ x. eqb (x .object) o) (v .books .cards) e h)
 
 -- in a book in order the card that is found is the only one of its object
 pub card-only : (object : ℕ) (k : Card) (cs : List Card) → ascending cardBefore cs ≡ true → find (λ d. eqb (d .object) object) cs ≡ some k → Each (λ d. d .object ≡ object → d ≡ k) cs

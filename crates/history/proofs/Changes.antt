@@ -5,26 +5,26 @@ use mathlib.Core.Logic.{_⊎_, inl, inr}
 use mathlib.Core.List.{List, [], flatMap}
 use mathlib.Core.Bool.{Bool, true, false, _&&_}
 use mathlib.Core.Option.{some}
-use Prim.Native.Nat.{ℕ, _*_, _/_, _≤_, _<_}
+use Prim.Native.Nat.{ℕ, _/_, _≤_, _<_}
 use native.Mathlib.Decide.{ℕ-discrete}
 use native.Mathlib.Omega.{arith}
 use lib.Dec.{eqb}
-use lib.ListN.{length, take, length-take}
+use lib.ListN.{length, take}
 use borrow.Author.Tests.{eq-eqb, ne-eqb}
 use Rattle.rules.specs.Write.{planOf, writeOutcome, growOutcome}
 use Rattle.rules.specs.Time.{Time}
 use Rattle.rules.specs.Lists.{if_then_else_, given, count, any, member}
-use Rattle.rules.specs.Sizes.{blockBytes, unitBlocks, mostBlocks, mostRuns, mostSize, mostTransfer}
-use Rattle.rules.specs.Bytes.{Bytes, padded}
+use Rattle.rules.specs.Sizes.{unitBlocks, mostRuns, mostSize, mostTransfer}
+use Rattle.rules.specs.Bytes.{padded}
 use Rattle.rules.specs.Card.{Card}
-use Rattle.rules.specs.Store.{Store, StoreBytes, Volume, decode, decodeWith, headOf, encodeInto, imageBlocks, cardOf}
+use Rattle.rules.specs.Store.{Store, StoreBytes, Volume, decode, encodeInto, cardOf}
 use Rattle.rules.specs.Integrity.{onDevice}
 use Rattle.rules.specs.Refusal.{Refusal, Outcome, numberOf, result}
 use Rattle.rules.specs.Refusal.Refusal.{no-space}
 use Rattle.rules.specs.Refusal.Outcome.{accept}
 use Rattle.rules.specs.Units.{Change, clipped, writeChange, growChange, writeUnits, growUnits}
 use Rattle.rules.specs.Inspect.{unitMapping}
-use Rattle.rules.specs.Rewrite.{Progress, Rewritten, Plan, rewriteUnits}
+use Rattle.rules.specs.Rewrite.{Progress, rewriteUnits}
 use Rattle.rules.specs.Rewrite.Plan.{refused, planned}
 use Rattle.rules.specs.Finish.{finished}
 use Rattle.rules.specs.Call.{InRange, call}
@@ -32,11 +32,11 @@ use Rattle.rules.specs.Call.Call.{write, grow}
 use Rattle.rules.specs.Plain.{File, change, overwrite, accepted, fileBytes}
 use Rattle.rules.specs.Demand.{Place, placesOf, places, filePlaces, neverNumbers}
 use Rattle.rules.proofs.ListLaws.{if-true, if-false, and-left, find-mem, each-weaken}
-use Rattle.rules.proofs.ByteLaws.{bytes-nil, bytes-take}
 use Rattle.rules.proofs.CountLaws.{count-weaken}
-use Rattle.rules.proofs.PassLaws.{Lawful, passes-sized, lawful-decode, room-decode, decode-fits, Says}
+use Rattle.rules.proofs.PassLaws.{Lawful, lawful-decode, decode-fits, Says}
 use Rattle.rules.proofs.EnterLaws.{TimeRight}
-use Rattle.history.proofs.HolderLaws.{filePlaces-most}
+use Rattle.rules.proofs.BytesKept.{write-bytes, bytes-kept}
+use Rattle.history.proofs.HolderLaws.{place-once, filePlaces-most}
 use Rattle.history.proofs.FileCallLaws.{FileCall, Carried, Written, Grown, write-accepted, grow-accepted, never-write, never-grow}
 use Rattle.history.proofs.Invariant.{Inv, inv-says, known-object, ChangesRight}
 use Rattle.history.proofs.Rewritten.{apart-lawful}
@@ -44,39 +44,23 @@ use Rattle.history.proofs.ApartLaws.{laid-of}
 use Rattle.rules.proofs.KeptLaws.{there}
 use Rattle.history.proofs.PlaceCounts.{total, total-each, count-units}
 use Rattle.history.proofs.UnitLaws.{mapping-below, length-blockAt}
-use Rattle.history.proofs.ChangeLaws.{Becomes, UnitsOf, write-becomes, grow-becomes, units-write, units-grow}
-use Rattle.history.proofs.PlanLaws.{Planned, PlanIs, plan-full, plan-done, Enough, Known, plan-is, unitOld}
-use Rattle.history.proofs.AfterUnits.{Carrying}
-use Rattle.history.proofs.VolumeAfter.{bytes-file, bytes-becomes, CallRight, says-after}
-use Rattle.history.proofs.AgreesAfter.{bytes-mine, bytes-theirs, card-of-object, files-after, blocks-after}
-use Rattle.history.proofs.MoreLists.{count-all, each-mem, once-ascending}
+use Rattle.history.proofs.ChangeLaws.{Becomes, write-becomes, grow-becomes, units-grow}
+use Rattle.history.proofs.PlanLaws.{UnitRight, StaysHole, PlanIs, Enough, WantsBlocks, Known, plan-is, unitOld}
+use Rattle.history.proofs.AfterUnits.{Carrying, Filling}
+use Rattle.history.proofs.CardsAfter.{card-of-object}
+use Rattle.history.proofs.VolumeAfter.{CallRight}
+use Rattle.history.proofs.UnsharedLaws.{whole-image, few-blocks, card-in, known-own, FileChange, change-of-write, foundFirst, change-carrying, change-right, change-says}
+use Rattle.history.proofs.AgreesAfter.{bytes-mine, bytes-theirs, files-after, blocks-after}
+use Rattle.history.proofs.MoreLists.{count-all, once-ascending}
 use Rattle.history.proofs.MoreBytes.{padded-whole}
-
--- ---- plans
-
--- a plan that is refused is so for want of blocks
-refused-is : {v : Volume} {c : Change} {ys us : List ℕ} {p : Progress} {k : Plan} → PlanIs v c ys us p k → (r : Refusal) → k ≡ refused r → member (numberOf r) neverNumbers ≡ false
-unfolding numberOf member any
-refused-is plan-full r e = let z : no-space ≡ r = cc in rw (← z) refl
-refused-is (plan-done d) r e = let z : _≡_ {A = ℕ} 0 1 = cc in absurd (omega arith)
-
--- one that is carried out is as told
-planned-is : {v : Volume} {c : Change} {ys us : List ℕ} {p : Progress} {k : Plan} → PlanIs v c ys us p k → (rs : List Rewritten) (q : Progress) → k ≡ planned rs q → Planned v c ys us p rs q
-planned-is plan-full rs q e = let z : _≡_ {A = ℕ} 0 1 = cc in absurd (omega arith)
-planned-is (plan-done {rs = ts} {q = o} d) rs q e =
-    let a : ts ≡ rs = cc in
-    let b : o ≡ q = cc in
-    rw (← a, ← b) d
 
 -- ---- one change
 
--- a change to an object's file, told by its card, its plain array and what that becomes
+-- a change to an object's file, told by its plain array too and what that becomes
 record ChangeOf (files : List File) (s : Store) (card : Card) (c : Change) (xs ys us : List ℕ) : Type 0 where
-  known : cardOf (decode s) (c .object) ≡ some card
-  size : card .size ≡ c .oldSize
+  file : FileChange s card c us
   array : fileBytes files (c .object) ≡ some xs
   becomes : Becomes c xs ys
-  units : UnitsOf c us
 
 module _ {files : List File} {reserved : ℕ} {s : Store} (b : StoreBytes s) (h : Inv files reserved s) {card : Card} {c : Change} {xs ys us : List ℕ} (g : ChangeOf files s card c xs ys us) where
   -- the volume that the store says
@@ -85,48 +69,34 @@ module _ {files : List File} {reserved : ℕ} {s : Store} (b : StoreBytes s) (h 
 
   -- what the first unit finds
   abbrev first : Progress
-  first = record { taken = []; hint = vol .hint; allocated = card .allocated }
+  first = foundFirst s card
 
   -- the volume is lawful
   lawful : Lawful vol
   lawful = lawful-decode s (h .passes)
 
-  -- its image is as long as its blocks
-  whole-image : length (vol .image) ≡ vol .blocks * blockBytes
-  whole-image =
-      let r = room-decode s (h .passes) in
-      let z = passes-sized s (h .passes) in
-      omega (arith, r .image, r .blocks, z .whole, blocks)
-    where
-      blocks : imageBlocks s ≡ length (s .image) / blockBytes
-      blocks = unfold imageBlocks in refl
-
-  -- it has at most 65,536
-  few-blocks : vol .blocks ≤ mostBlocks
-  few-blocks = omega (arith, room-decode s (h .passes) .blocks, passes-sized s (h .passes) .most)
-
   -- the card is of the file
   object-is : card .object ≡ c .object
-  object-is = card-of-object vol (c .object) card (g .known)
+  object-is = card-of-object vol (c .object) card (g .file .known)
 
   -- what is known of the file
   known-file : Known vol c xs ys
   known-file = record {
     becomes = g .becomes;
-    file = rw object-is at (h .filesAgree .bytes (c .object) xs (g .array) card (g .known) .1);
-    whole = λ b q m. length-blockAt (vol .image) (vol .blocks) q whole-image (mapping-below (vol .blocks) (vol .books .extents) (unfold onDevice in lawful .device) (c .object) b q m);
+    file = rw object-is at (h .filesAgree .bytes (c .object) xs (g .array) card (g .file .known) .1);
+    whole = λ b q m. length-blockAt (vol .image) (vol .blocks) q (whole-image s (h .passes)) (mapping-below (vol .blocks) (vol .books .extents) (unfold onDevice in lawful .device) (c .object) b q m);
   }
 
   -- the card's count is that of the file's places
   count-is : card .allocated ≡ filePlaces vol (c .object)
-  count-is = h .filesAgree .counts card (find-mem (λ x. eqb (x .object) (c .object)) (vol .books .cards) card (unfold cardOf in g .known)) ∙ ap (filePlaces vol) object-is
+  count-is = h .filesAgree .counts card (find-mem (λ x. eqb (x .object) (c .object)) (vol .books .cards) card (unfold cardOf in g .file .known)) ∙ ap (filePlaces vol) object-is
 
   -- enough for all units
   enough : Enough vol c us first
   unfolding unitMapping
   enough = record {
     least = omega (arith, units-count, count-is, places-most);
-    most = omega (arith, count-is, filePlaces-most reserved vol lawful (h .blocksAgree .onePlace) (c .object), few-blocks, g .units .few);
+    most = omega (arith, count-is, filePlaces-most reserved vol lawful (h .blocksAgree .onePlace) (c .object), few-blocks s (h .passes), g .file .units .few);
   }
     where
       in-units : Place → Bool
@@ -134,7 +104,7 @@ module _ {files : List File} {reserved : ℕ} {s : Store} (b : StoreBytes s) (h 
 
       units-count : count in-units (flatMap placesOf (vol .books .extents)) ≡ total (λ u. length (there (unitOld vol c u))) us
       units-count =
-          count-units (λ b. true) (c .object) (laid-of (vol .books .extents) (apart-lawful vol lawful) .ahead) us (once-ascending us (g .units .ordered))
+          count-units (λ b. true) (c .object) (laid-of (vol .books .extents) (apart-lawful vol lawful) .ahead) us (once-ascending us (g .file .units .ordered))
           ∙ total-each (λ u. count (λ b. true) (there (unitOld vol c u))) (λ u. length (there (unitOld vol c u))) (λ u. count-all (there (unitOld vol c u))) us
 
       places-most : count in-units (flatMap placesOf (vol .books .extents)) ≤ filePlaces vol (c .object)
@@ -142,50 +112,35 @@ module _ {files : List File} {reserved : ℕ} {s : Store} (b : StoreBytes s) (h 
 
   -- no unit is refused with "9 to 12 and 14"
   never-plan : (limit : ℕ) (r : Refusal) → rewriteUnits limit vol c us first ≡ refused r → member (numberOf r) neverNumbers ≡ false
-  never-plan limit = refused-is (plan-is limit vol c xs ys known-file us first enough)
+  unfolding numberOf member any
+  never-plan limit r e = let z : r ≡ no-space = subst (PlanIs vol c WantsBlocks (StaysHole vol c ys) (UnitRight vol ys) us first) e (plan-is limit vol c xs ys known-file us first enough) in
+      rw z refl
 
   -- the change is kept
-  inv-change : (limit answer : ℕ) (time : Time) → TimeRight time → c .newSize ≤ mostSize → Bytes (c .bytes) → (f : List ℕ → List ℕ) → f xs ≡ ys
-      → (o : Outcome) → Carried answer c time s (rewriteUnits limit vol c us first) o → Inv (change (c .object) f files) reserved (result s [] o .store)
-  inv-change limit answer time timely end w f y o r =
-      rw (r .done) (unfold result in inv-says (change (c .object) f files) reserved (encodeInto s left) left says (files-after d k refl files f y (g .array) (h .filesAgree)) (blocks-after d k refl (h .blocksAgree)))
+  inv-change : (limit answer : ℕ) (time : Time) → TimeRight time → c .newSize ≤ mostSize → (f : List ℕ → List ℕ) → f xs ≡ ys
+      → (o : Outcome) → StoreBytes (result s [] o .store) → Carried answer c time s (rewriteUnits limit vol c us first) o → Inv (change (c .object) f files) reserved (result s [] o .store)
+  inv-change limit answer time timely end f y o w r =
+      rw (r .done) (unfold result in inv-says (change (c .object) f files) reserved (encodeInto s left) left says (files-after d k told refl files f y (g .array) (h .filesAgree)) (blocks-after d k told refl (h .blocksAgree)))
     where
       left : Volume
       left = finished c time (r .units) (r .progress) vol
 
-      d : Carrying vol c xs ys us first (r .units) (r .progress)
-      d = record {
-        lawful = lawful;
+      d : Carrying vol c (r .units)
+      d = change-carrying b (h .passes) (g .file) limit r
+
+      k : CallRight vol c card (r .progress) time
+      k = change-right b (h .passes) (g .file) limit r timely end
+
+      told : Filling vol c xs ys us first (r .units) (r .progress)
+      told = record {
         becomes = g .becomes;
-        units = g .units;
-        planned = planned-is (plan-is limit vol c xs ys known-file us first enough) (r .units) (r .progress) (r .plan);
-        image = omega (arith, whole-image);
+        units = g .file .units;
+        planned = subst (PlanIs vol c WantsBlocks (StaysHole vol c ys) (UnitRight vol ys) us first) (r .plan) (plan-is limit vol c xs ys known-file us first enough);
         slots = each-weaken (λ g f. f .slots) (decode-fits s (h .passes) b .groups);
       }
 
-      k : CallRight vol c us first time reserved
-      k = record {
-        card = card;
-        known = g .known;
-        size = g .size;
-        fits = decode-fits s (h .passes) b;
-        few = few-blocks;
-        onePlace = h .blocksAgree .onePlace;
-        timely = timely;
-        end = end;
-        enough = enough;
-        hint = hint;
-      }
-        where
-          hint : vol .hint < 4
-          hint = unfold headOf in decode-fits s (h .passes) b .head .hint
-
-      image : Bytes (vol .image)
-      image = unfold decode decodeWith in b .image
-
       says : Says (encodeInto s left) left
-      says = says-after d k s (room-decode s (h .passes)) image (bytes-becomes c xs ys (g .becomes) (bytes-file vol (c .object) xs (known-file .file) image) w)
-          (unfold finished in r .extents) (unfold finished in r .groups)
+      says = change-says b (h .passes) (g .file) limit r timely end w (λ n l. place-once reserved vol n (h .blocksAgree .onePlace n l))
 
 -- ---- write and grow
 
@@ -193,10 +148,6 @@ module _ (files : List File) (reserved : ℕ) (s : Store) (b : StoreBytes s) (h 
   -- the card is of the object
   mine : card .object ≡ object
   mine = card-of-object (decode s) object card known
-
-  -- it is found by its own object
-  known-own : cardOf (decode s) (card .object) ≡ some card
-  known-own = ap (cardOf (decode s)) mine ∙ known
 
   -- the plain array of the object
   abbrev plainOf : List ℕ
@@ -210,52 +161,38 @@ module _ (files : List File) (reserved : ℕ) (s : Store) (b : StoreBytes s) (h 
   size-own : card .size ≡ length plainOf
   size-own = h .filesAgree .bytes object plainOf (known-object files reserved s h object card known .1) card known .0
 
-  -- at most so long as a file can be
-  size-most : card .size ≤ mostSize
-  size-most =
-      let m = find-mem (λ x. eqb (x .object) object) (decode s .books .cards) card (unfold cardOf in known) in
-      omega (arith, each-mem (decode-fits s (h .passes) b .cards) m .size)
-
   -- the change of a write
   write-change : (offset : ℕ) (bytes : List ℕ) → (length bytes ≡ 0 → ⊥)
       → ChangeOf files s card (writeChange (card .object) (card .size) offset bytes) plainOf (overwrite offset (take mostTransfer bytes) plainOf) (writeUnits (writeChange (card .object) (card .size) offset bytes))
-  unfolding writeChange
   write-change offset bytes n = record {
-    known = known-own;
-    size = refl;
-    array = array-own;
+    file = change-of-write s object card known offset bytes n;
+    array = unfold writeChange in array-own;
     becomes = subst (λ (n : ℕ). Becomes (writeChange (card .object) n offset bytes) plainOf (overwrite offset (take mostTransfer bytes) plainOf)) (sym size-own) (write-becomes (card .object) offset bytes plainOf);
-    units = units-write (card .object) (card .size) offset bytes some;
   }
-    where
-      some : 0 < length (clipped bytes)
-      some = unfold clipped in omega (arith, length-take mostTransfer bytes, n)
 
   -- the change of a grow
   grow-change : (size : ℕ) → card .size < size
       → ChangeOf files s card (growChange (card .object) (card .size) size) plainOf (padded size plainOf) (growUnits (growChange (card .object) (card .size) size))
   unfolding growChange
   grow-change size l = record {
-    known = known-own;
-    size = refl;
+    file = record { known = known-own s object card known; size = refl; longer = omega (arith, l); units = units-grow (card .object) (card .size) size l };
     array = array-own;
     becomes = subst (λ (n : ℕ). Becomes (growChange (card .object) n size) plainOf (padded size plainOf)) (sym size-own) (grow-becomes (card .object) size plainOf (omega (arith, l, size-own)));
-    units = units-grow (card .object) (card .size) size l;
   }
 
   -- a write that was carried out keeps it
-  write-done : (limit offset : ℕ) (bytes : List ℕ) (time : Time) (o : Outcome) → Bytes bytes → Written limit offset bytes time s card o
+  write-done : (limit offset : ℕ) (bytes : List ℕ) (time : Time) (o : Outcome) → StoreBytes (result s [] o .store) → Written limit offset bytes time s card o
       → Inv (change object (overwrite offset (take mostTransfer bytes)) files) reserved (result s [] o .store)
   write-done limit offset bytes time o k w =
       subst (λ (n : ℕ). Inv (change n (overwrite offset (take mostTransfer bytes)) files) reserved (result s [] o .store)) mine
-      (unfold writeChange in inv-change b h (write-change offset bytes (w .some)) limit (length (clipped bytes)) time (w .timely) (omega (arith, w .end, size-most))
-      (unfold clipped in bytes-take mostTransfer bytes k) (overwrite offset (take mostTransfer bytes)) refl o (unfold planOf in w .carried))
+      (unfold writeChange in inv-change b h (write-change offset bytes (w .some)) limit (length (clipped bytes)) time (w .timely) (omega (arith, w .end, card-in s (h .passes) b object card known .size))
+      (overwrite offset (take mostTransfer bytes)) refl o k (unfold planOf in w .carried))
 
   -- and so does a grow
-  grow-done : (size : ℕ) (time : Time) (o : Outcome) → Grown size time s card o → Inv (change object (padded size) files) reserved (result s [] o .store)
-  grow-done size time o w =
+  grow-done : (size : ℕ) (time : Time) (o : Outcome) → StoreBytes (result s [] o .store) → Grown size time s card o → Inv (change object (padded size) files) reserved (result s [] o .store)
+  grow-done size time o k w =
       subst (λ (n : ℕ). Inv (change n (padded size) files) reserved (result s [] o .store)) mine
-      (unfold growChange in inv-change b h (grow-change size (w .more)) mostRuns 0 time (w .timely) (w .end) bytes-nil (padded size) refl o (unfold planOf in w .carried))
+      (unfold growChange in inv-change b h (grow-change size (w .more)) mostRuns 0 time (w .timely) (w .end) (padded size) refl o k (unfold planOf in w .carried))
 
   -- a grow to the size that there is leaves the array as it is
   grow-none : (size : ℕ) → size ≡ card .size → (n : ℕ) → Dec (n ≡ object) → fileBytes (change object (padded size) files) n ≡ fileBytes files n
@@ -296,7 +233,7 @@ write-keeps limit object offset bytes time files reserved s i b e h = go (r .don
 
     go : ((length bytes ≡ 0) × (o ≡ accept 0 s [])) ⊎ Written limit offset bytes time s (r .card) o → Inv (if eqb (length bytes) 0 then files else news) reserved (result s [] o .store)
     go (inl z) = rw (if-true (eqb (length bytes) 0) files news (eq-eqb (length bytes) 0 (z .0)), z .1) (unfold result in h)
-    go (inr w) = rw (if-false (eqb (length bytes) 0) files news (ne-eqb (length bytes) 0 (w .some))) (write-done files reserved s b h object (r .card) (r .known) limit offset bytes time o (i .2) w)
+    go (inr w) = rw (if-false (eqb (length bytes) 0) files news (ne-eqb (length bytes) 0 (w .some))) (write-done files reserved s b h object (r .card) (r .known) limit offset bytes time o (write-bytes s b limit object offset bytes time (i .2)) w)
 
 -- and so does a grow
 grow-keeps : (object size : ℕ) (time : Time) (files : List File) (reserved : ℕ) (s : Store)
@@ -313,7 +250,7 @@ grow-keeps object size time files reserved s i b e h = go (r .done)
 
     go : ((size ≡ r .card .size) × (o ≡ accept 0 s [])) ⊎ Grown size time s (r .card) o → Inv (change object (padded size) files) reserved (result s [] o .store)
     go (inl z) = rw (z .1) (unfold result in inv-same files (change object (padded size) files) reserved s (λ n. grow-none files reserved s b h object (r .card) (r .known) size (z .0) n (ℕ-discrete n object)) h)
-    go (inr w) = grow-done files reserved s b h object (r .card) (r .known) size time o w
+    go (inr w) = grow-done files reserved s b h object (r .card) (r .known) size time o (unfold call in bytes-kept (grow object size time) s i b) w
 
 -- both, as `Invariant` asks for them
 pub changes : ChangesRight

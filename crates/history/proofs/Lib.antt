@@ -14,7 +14,7 @@
 -- What the plan says:
 --   ChangeLaws         what a change does to a plain array, and which units it leaves out
 --   UnitLaws           what a hole and a checked unit say of books and image
---   PlanLaws           no unit is refused but for want of blocks, and what a rewritten unit becomes
+--   PlanLaws           where a rewritten unit's blocks are, on any volume; no unit is refused but for want of blocks, and what its bytes become
 --   PlannedLaws        the rewritten units together: their order, new blocks, the card's count and the hint
 --
 -- What the finished volume says, from the plan:
@@ -22,8 +22,9 @@
 --                      RunLaws (the runs of the call), MappingLaws (where a block is), PlaceLaws and ExtentsFromPlaces (places)
 --   GroupsAfter, CardsAfter, ImageAfter      the groups, the cards, the image
 --   AfterUnits         each unit, read: a rewritten one has the new bytes, any other its old ones (BackedLaws: refusal 9's test of a unit)
---   BlocksAfter        each block is in one place, and the maps keep their rules (PlaceCounts, BalanceLaws: places counted)
---   VolumeAfter        it passes refusals 1 and 2
+--   BlocksAfter        no block gets a second place, each is in one place where it was, and the maps keep their rules (PlaceCounts, BalanceLaws: places counted)
+--   VolumeAfter        it passes refusals 1 and 2, where no block had two places
+--   UnsharedLaws       so it is with a change to any store, damaged or not: an accepted write leaves one that passes them and maps no block twice such a one
 --   AgreesAfter        it says what the plain arrays do
 --
 -- MoreLists and MoreBytes are laws of lists and of buffers that these rest on. Laws of the rules that code cites too stand in `rules`: what is kept of a unit
@@ -61,6 +62,7 @@ pub mod BlocksAfter
 pub mod PlaceCounts
 pub mod BalanceLaws
 pub mod VolumeAfter
+pub mod UnsharedLaws
 pub mod AgreesAfter
 pub mod MoreLists
 pub mod MoreBytes

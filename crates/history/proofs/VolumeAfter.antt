@@ -1,20 +1,19 @@
 -- The volume that a change leaves is lawful and in range, and has room in the buffers: so the store that is left says it.
 -- Assumes nothing.
-use mathlib.Core.Path.{_≡_, refl, sym, ap, _∙_}
-use mathlib.Core.List.{List, [], _∷_, map}
+use mathlib.Core.Path.{_≡_, sym, ap, _∙_}
+use mathlib.Core.List.{List, [], _∷_, map, flatMap}
 use mathlib.Core.Bool.{true, _&&_}
 use mathlib.Core.Option.{some}
-use Prim.Native.Nat.{ℕ, _+_, _-_, _*_, _/_, _%_, _^_, _≤_, _<_}
+use Prim.Native.Nat.{ℕ, _+_, _-_, _*_, _^_, _≤_, _<_}
 use native.Mathlib.Nat.{pow-suc}
-use native.Mathlib.Decide.{decLt}
 use native.Mathlib.Omega.{arith}
 use lib.Dec.{eqb, leb}
-use lib.ListN.{length, getD, List·getD-eq-default}
+use lib.ListN.{length, getD}
 use borrow.Author.Tests.{eqb-true, leb-true, le-leb}
 use Rattle.rules.specs.Time.{Time}
 use Rattle.rules.specs.Book.{bookPlaces}
-use Rattle.rules.specs.Lists.{given, all, ascending, begun}
-use Rattle.rules.specs.Sizes.{blockBytes, unitBlocks, unitBytes, mostBlocks, mostSize}
+use Rattle.rules.specs.Lists.{given, all, count, ascending, begun}
+use Rattle.rules.specs.Sizes.{blockBytes, unitBlocks, mostBlocks, mostSize, mostAllocated}
 use Rattle.rules.specs.Bytes.{Bytes, part}
 use Rattle.rules.specs.Card.{Card, cardBefore}
 use Rattle.rules.specs.Extent.{Extent, extentBytes, extentBefore, extentEnd}
@@ -25,70 +24,25 @@ use Rattle.rules.specs.Crc32c.{fromBits, complement, message, dividend, divide,
 use Rattle.rules.specs.Store.{Store, Volume, headOf, encodeInto, cardOf}
 use Rattle.rules.specs.Integrity.{ordered, timesRight, noneEmpty, noOverlap, onDevice, inFile, inFiles}
 use Rattle.rules.specs.Units.{Change, validLength}
-use Rattle.rules.specs.Inspect.{Inspected, inspectUnit, validBytes}
 use Rattle.rules.specs.Rewrite.{Progress, Rewritten}
 use Rattle.rules.specs.Finish.{finishedCards, finishedExtents, finishedGroups, finished}
-use Rattle.rules.proofs.ListLaws.{and-left, and-right, and-intro, all-weaken, any-index, find-given, find-passes, find-mem, Each, each-at, each-all, each-both, each-map, each-any, each-weaken, getD-same}
-use Rattle.rules.proofs.ByteLaws.{bytes-part, getD-part}
+use Rattle.rules.proofs.ListLaws.{and-left, and-right, and-intro, all-weaken, any-index, find-given, find-passes, find-mem, Each, each-at, each-all, each-both, each-map, each-any, each-weaken}
 use Rattle.rules.proofs.DivisionLaws.{crc-divides}
 use Rattle.rules.proofs.CardLaws.{CardFits}
 use Rattle.rules.proofs.ExtentLaws.{ExtentFits}
 use Rattle.rules.proofs.StoreLaws.{VolumeFits}
 use Rattle.rules.proofs.PassLaws.{each-passed, all-passed, Lawful, Room, buffers-sized, Says, says-encodeInto}
 use Rattle.rules.proofs.EnterLaws.{TimeRight}
-use Rattle.rules.proofs.BytesKept.{bytes-valid, bytes-finishedImage}
-use Rattle.history.proofs.ReadLaws.{UnitIs, is-hole, is-checked, FileIs}
-use Rattle.rules.specs.Demand.{holders}
+use Rattle.rules.specs.Demand.{placesOf}
 use Rattle.history.proofs.ExtentsAfter.{device-after, files-after}
 use Rattle.history.proofs.RunLaws.{single}
 use Rattle.history.proofs.ImageAfter.{length-finishedImage}
 use Rattle.history.proofs.GroupsAfter.{ascending-finished, fits-finished}
 use Rattle.history.proofs.CardsAfter.{card-only, cardAfter, cards-are, size-mine, object-after, found-after, cards-order, cards-length, cards-times, cards-fit, file-stays}
-use Rattle.history.proofs.UnitLaws.{checked-means}
-use Rattle.history.proofs.ChangeLaws.{Becomes}
-use Rattle.history.proofs.PlanLaws.{Enough, unitPart}
-use Rattle.history.proofs.PlannedLaws.{Made, made-blocks, planned-hint, planned-enough}
-use Rattle.history.proofs.AfterUnits.{Carrying, made-all, laid-all, apart-old, apart-new}
+use Rattle.history.proofs.PlannedLaws.{Made, made-blocks}
+use Rattle.history.proofs.AfterUnits.{Carrying, laid-all, apart-old, apart-new}
 use Rattle.history.proofs.BlocksAfter.{each-newPlaces, new-sited, mapped-after-right, reserved-after, retired-after, used-past, retired-past}
 use Rattle.history.proofs.MoreLists.{any-each, each-mem}
-
--- ---- bytes
-
--- a plain array that a volume's file has is one of bytes
-pub bytes-file : (v : Volume) (object : ℕ) (xs : List ℕ) → FileIs v object xs → Bytes (v .image) → Bytes xs
-bytes-file v object xs f b i = go (decLt i (length xs))
-  where
-    u : ℕ
-    u = i / unitBytes
-
-    j : ℕ
-    j = i % unitBytes
-
-    here : getD xs i 0 ≡ getD (unitPart u xs) j 0
-    here = let e : u * unitBytes + j ≡ i = omega arith in
-        sym (getD-part xs (u * unitBytes) unitBytes j (omega arith) ∙ ap (λ (k : ℕ). getD xs k 0) e)
-
-    unit : {n : Inspected} → UnitIs (unitPart u xs) n → inspectUnit v object (length xs) u ≡ n → getD (unitPart u xs) j 0 < 256
-    unit (is-hole e) h = omega (arith, ap (λ (zs : List ℕ). getD zs j 0) e ∙ getD-same (length (unitPart u xs)) 0 j)
-    unit (is-checked {ys = zs} e) h =
-        let c = checked-means v object (length xs) u zs h in
-        let k : Bytes (validBytes v object (length xs) u) = bytes-valid v object (length xs) u b in
-        omega (arith, ap (λ (ws : List ℕ). getD ws j 0) (e ∙ c .bytes), k j)
-
-    go : Dec (i < length xs) → getD xs i 0 < 256
-    go (yes l) = omega (arith, here, unit (f u (omega arith)) refl)
-    go (no l) = omega (arith, List·getD-eq-default xs 0 {n = i} (omega arith))
-
--- what it becomes by a change of bytes is too
-pub bytes-becomes : (c : Change) (xs ys : List ℕ) → Becomes c xs ys → Bytes xs → Bytes (c .bytes) → Bytes ys
-bytes-becomes c xs ys h b w i = go (decLt i (c .offset)) (decLt i (c .offset + length (c .bytes)))
-  where
-    go : Dec (i < c .offset) → Dec (i < c .offset + length (c .bytes)) → getD ys i 0 < 256
-    go (yes l) m = omega (arith, h .before i l, b i)
-    go (no l) (yes m) =
-        let e : c .offset + (i - c .offset) ≡ i = omega arith in
-        omega (arith, sym (ap (λ (k : ℕ). getD ys k 0) e) ∙ h .written (i - c .offset) (omega arith), w (i - c .offset))
-    go (no l) (no m) = omega (arith, h .behind i (omega arith), b i)
 
 -- ---- checksums
 
@@ -120,21 +74,19 @@ extent-fits {cards} f n m e t l =
     let b : e .logical + e .count ≤ begun (c .size) blockBytes = leb-true (e .logical + e .count) (begun (c .size) blockBytes) (and-right (eqb (c .object) (e .object)) (leb (e .logical + e .count) (begun (c .size) blockBytes)) (i .2)) in
     record { object = omega (arith, k .object, q); logical = omega (arith, k .size, b); physical = omega (arith, l, m); count = omega (arith, l, m) }
 
--- what is known of the call besides
-pub record CallRight (v : Volume) (c : Change) (us : List ℕ) (p : Progress) (time : Time) (reserved : ℕ) : Type 0 where
-  pub card : Card
+-- what is known of the call besides: the file's card, the time, and what the units leave
+pub record CallRight (v : Volume) (c : Change) (card : Card) (q : Progress) (time : Time) : Type 0 where
   pub known : cardOf v (c .object) ≡ some card
   pub size : card .size ≡ c .oldSize
+  pub longer : c .oldSize ≤ c .newSize
+  pub end : c .newSize ≤ mostSize
+  pub timely : TimeRight time
   pub fits : VolumeFits v
   pub few : v .blocks ≤ mostBlocks
-  pub onePlace : (b : ℕ) → b < v .blocks → holders reserved v b ≡ 1
-  pub timely : TimeRight time
-  pub end : c .newSize ≤ mostSize
-  pub enough : Enough v c us p
-  pub hint : p .hint < 4
+  pub most : q .allocated ≤ mostAllocated
+  pub hint : q .hint < 4
 
-module _ {v : Volume} {c : Change} {xs ys : List ℕ} {us : List ℕ} {p : Progress} {rs : List Rewritten} {q : Progress} {time : Time} {reserved : ℕ}
-    (d : Carrying v c xs ys us p rs q) (k : CallRight v c us p time reserved) where
+module _ {v : Volume} {c : Change} {card : Card} {rs : List Rewritten} {q : Progress} {time : Time} (d : Carrying v c rs) (k : CallRight v c card q time) where
   -- the volume that is left
   abbrev after-all : Volume
   after-all = finished c time rs q v
@@ -159,22 +111,22 @@ module _ {v : Volume} {c : Change} {xs ys : List ℕ} {us : List ℕ} {p : Progr
       (o .0, o .1 .1 .0)
 
   -- the file's card is its only one
-  pub only-card : Each (λ x. x .object ≡ c .object → x ≡ k .card) (v .books .cards)
-  only-card = card-only (c .object) (k .card) (v .books .cards) (in-order-before .0) (unfold cardOf in k .known)
+  pub only-card : Each (λ x. x .object ≡ c .object → x ≡ card) (v .books .cards)
+  only-card = card-only (c .object) card (v .books .cards) (in-order-before .0) (unfold cardOf in k .known)
 
   -- no file gets shorter
   longer : Each (λ x. x .object ≡ c .object → x .size ≤ c .newSize) (v .books .cards)
-  longer = each-weaken (λ x h e. let z : x .size ≡ k .card .size = ap (λ (y : Card). y .size) (h e) in omega (arith, z, k .size, d .becomes .old, d .becomes .new, d .becomes .more)) only-card
+  longer = each-weaken (λ x h e. let z : x .size ≡ card .size = ap (λ (y : Card). y .size) (h e) in omega (arith, z, k .size, k .longer)) only-card
 
   -- a new place lies in the file
-  place-in : (r : Rewritten) → Made v c ys r → (i : ℕ) → i < length (r .blocks)
+  place-in : (r : Rewritten) → Made v c r → (i : ℕ) → i < length (r .blocks)
       → inFile after-cards (single (record { object = c .object; logical = r .unit * unitBlocks + i; block = getD (r .blocks) i 0 })) ≡ true
   unfolding inFile extentEnd
   place-in r m i l =
       any-each (λ x. eqb (x .object) (c .object) && leb (r .unit * unitBlocks + i + 1) (begun (x .size) blockBytes)) (λ x. eqb (x .object) (c .object))
       (rw (cards-are c (q .allocated) time (v .books .cards)) (each-map (moved) (each-any one (v .books .cards))))
       (sym (find-given (λ x. eqb (x .object) (c .object)) after-cards)
-      ∙ (unfold given in ap given (found-after c (q .allocated) time (c .object) (v .books .cards) (k .card) (unfold cardOf in k .known))))
+      ∙ (unfold given in ap given (found-after c (q .allocated) time (c .object) (v .books .cards) card (unfold cardOf in k .known))))
     where
       ends : r .unit * unitBlocks + i + 1 ≤ begun (c .newSize) blockBytes
       ends = unfold validLength in omega (arith, l, made-blocks m)
@@ -192,16 +144,16 @@ module _ {v : Volume} {c : Change} {xs ys : List ℕ} {us : List ℕ} {p : Progr
   files-in =
       files-after after-cards (c .object) rs (v .books .extents) (apart-old d)
       (all-weaken (inFile after-cards) (inFile (v .books .cards)) (v .books .extents) (file-stays c (q .allocated) time longer) (unfold inFiles in d .lawful .files))
-      (each-newPlaces (c .object) (each-weaken (λ r m i l. place-in r m i l) (made-all d)))
+      (each-newPlaces (c .object) (each-weaken (λ r m i l. place-in r m i l) (d .made)))
 
   -- and on the device
   device-in : all (λ e. leb (e .physical + e .count) (v .blocks)) after-extents ≡ true
   device-in = device-after (v .blocks) (c .object) rs (v .books .extents) (apart-old d) (unfold onDevice in d .lawful .device) (each-weaken (λ x s. s .below) (new-sited d))
 
-  -- the volume that is left is lawful
-  lawful-after : Lawful after-all
+  -- the volume that is left is lawful, where each block was at one place at most
+  lawful-after : ((b : ℕ) → b < v .blocks → count (λ x. eqb (x .block) b) (flatMap placesOf (v .books .extents)) ≤ 1) → Lawful after-all
   unfolding finished ordered timesRight noneEmpty noOverlap onDevice inFiles
-  lawful-after = record {
+  lawful-after one = record {
     order = all-passed (ascending cardBefore after-cards) (ascending extentBefore after-extents ∷ ascending groupBefore (finishedGroups (c .object) rs (v .books .groups)) ∷ [])
         (cards-order c (q .allocated) time (v .books .cards) (in-order-before .0), (apart-new d .order, (ascending-finished (c .object) rs (v .books .groups) (in-order-before .1), tt)));
     times = cards-times c (q .allocated) time (k .timely .part) (v .books .cards) (d .lawful .times);
@@ -209,25 +161,25 @@ module _ {v : Volume} {c : Change} {xs ys : List ℕ} {us : List ℕ} {p : Progr
     apart = apart-new d .apart;
     device = device-in;
     files = files-in;
-    mapped = mapped-after-right d reserved (k .onePlace) time;
-    reserved = reserved-after d reserved (k .onePlace) time;
-    retired = retired-after d reserved (k .onePlace) time;
-    usedPast = used-past d reserved (k .onePlace) time;
-    retiredPast = retired-past d reserved (k .onePlace) time;
+    mapped = mapped-after-right d time q one;
+    reserved = reserved-after d time q;
+    retired = retired-after d time q;
+    usedPast = used-past d;
+    retiredPast = retired-past d;
   }
 
   -- its cards are in range
   cards-in : Each CardFits after-cards
   cards-in =
-      cards-fit c (q .allocated) time (omega (arith, k .end)) (omega (arith, planned-enough (d .planned) (k .enough) .most)) (omega (arith, k .timely .early)) (omega (arith, k .timely .part))
+      cards-fit c (q .allocated) time (omega (arith, k .end)) (omega (arith, k .most)) (omega (arith, k .timely .early)) (omega (arith, k .timely .part))
       (v .books .cards) (k .fits .cards)
 
   -- the file's object is in range
   object-in : c .object < 2 ^ 64
   object-in =
-      let m = find-mem (λ x. eqb (x .object) (c .object)) (v .books .cards) (k .card) (unfold cardOf in k .known) in
-      let e = find-passes (λ x. eqb (x .object) (c .object)) (v .books .cards) (k .card) (unfold cardOf in k .known) in
-      omega (arith, each-mem (k .fits .cards) m .object, eqb-true (k .card .object) (c .object) e)
+      let m = find-mem (λ x. eqb (x .object) (c .object)) (v .books .cards) card (unfold cardOf in k .known) in
+      let e = find-passes (λ x. eqb (x .object) (c .object)) (v .books .cards) card (unfold cardOf in k .known) in
+      omega (arith, each-mem (k .fits .cards) m .object, eqb-true (card .object) (c .object) e)
 
   -- all is in range, where the books are short enough
   fits-after : length after-extents < 2 ^ 20 → length (finishedGroups (c .object) rs (v .books .groups)) < 2 ^ 20 → VolumeFits after-all
@@ -240,7 +192,7 @@ module _ {v : Volume} {c : Change} {xs ys : List ℕ} {us : List ℕ} {p : Progr
           uuid = h .uuid;
           blocks = h .blocks;
           reserved = h .reserved;
-          hint = planned-hint (k .few) (d .planned) (k .hint);
+          hint = k .hint;
           cards = rw (cards-length c (q .allocated) time (v .books .cards)) (h .cards);
           extents = le;
           groups = lg;
@@ -248,13 +200,13 @@ module _ {v : Volume} {c : Change} {xs ys : List ℕ} {us : List ℕ} {p : Progr
         cards = cards-in;
         extents = each-both (λ e t l. extent-fits cards-in (v .blocks) (k .few) e t l) (each-all (inFile after-cards) (λ e t. t) after-extents files-in)
             (each-all (λ e. leb (e .physical + e .count) (v .blocks)) (λ e t. leb-true (e .physical + e .count) (v .blocks) t) after-extents device-in);
-        groups = fits-finished (c .object) object-in (each-weaken unit-in (made-all d)) (v .books .groups) (k .fits .groups);
-        used = λ n l. used-past d reserved (k .onePlace) time n (unfold mapBytes in omega (arith, l));
-        retired = λ n l. retired-past d reserved (k .onePlace) time n (unfold mapBytes in omega (arith, l));
+        groups = fits-finished (c .object) object-in (each-weaken unit-in (d .made)) (v .books .groups) (k .fits .groups);
+        used = λ n l. used-past d n (unfold mapBytes in omega (arith, l));
+        retired = λ n l. retired-past d n (unfold mapBytes in omega (arith, l));
       }
     where
-      unit-in : (r : Rewritten) → Made v c ys r → (r .unit < 2 ^ 64) × (r .checksum < 2 ^ 32)
-      unit-in r m = (omega (arith, m .inside, k .end), rw (m .right .checksum) (checksum-below (v .uuid) (c .object) (r .unit) (unitPart (r .unit) ys)))
+      unit-in : (r : Rewritten) → Made v c r → (r .unit < 2 ^ 64) × (r .checksum < 2 ^ 32)
+      unit-in r m = (omega (arith, m .inside, k .end), rw (m .placed .checksum) (checksum-below (v .uuid) (c .object) (r .unit) (r .bytes)))
 
   -- there is room for it
   room-after : (s : Store) → Room s v → length after-extents ≤ bookPlaces extentBytes (s .extents) → length (finishedGroups (c .object) rs (v .books .groups)) ≤ bookPlaces groupBytes (s .groups) → Room s after-all
@@ -269,15 +221,9 @@ module _ {v : Volume} {c : Change} {xs ys : List ℕ} {us : List ℕ} {p : Progr
     groups = lg;
   }
 
-  -- its image is of bytes
-  bytes-after : Bytes (v .image) → Bytes ys → Bytes (after-all .image)
-  unfolding finished
-  bytes-after b w =
-      bytes-finishedImage (each-weaken (λ r m. rw (m .right .bytes) (bytes-part ys (r .unit * unitBytes) unitBytes w)) (made-all d)) (v .image) b
-
   -- so the store that is left says it
-  pub says-after : (s : Store) → Room s v → Bytes (v .image) → Bytes ys → length after-extents ≤ bookPlaces extentBytes (s .extents)
-      → length (finishedGroups (c .object) rs (v .books .groups)) ≤ bookPlaces groupBytes (s .groups) → Says (encodeInto s after-all) after-all
-  says-after s r b w le lg =
+  pub says-after : (s : Store) → Room s v → Bytes (after-all .image) → ((b : ℕ) → b < v .blocks → count (λ x. eqb (x .block) b) (flatMap placesOf (v .books .extents)) ≤ 1)
+      → length after-extents ≤ bookPlaces extentBytes (s .extents) → length (finishedGroups (c .object) rs (v .books .groups)) ≤ bookPlaces groupBytes (s .groups) → Says (encodeInto s after-all) after-all
+  says-after s r b one le lg =
       let z = buffers-sized s (r .buffers) in
-      says-encodeInto s after-all (room-after s r le lg) (fits-after (omega (arith, le, z .extents .most)) (omega (arith, lg, z .groups .most))) lawful-after (bytes-after b w)
+      says-encodeInto s after-all (room-after s r le lg) (fits-after (omega (arith, le, z .extents .most)) (omega (arith, lg, z .groups .most))) (lawful-after one) b
