@@ -13,11 +13,13 @@ use Rattle.rules.specs.Head.{Head, headBytes, decodeHead}
 use Rattle.rules.specs.Extent.{extentBytes, decodeExtent}
 use Rattle.rules.specs.Book.{LentBooks, bookPlaces, decodeBook, decodeBooks, Books}
 use Rattle.rules.specs.Store.{Store, Volume, lent, decode, decodeWith}
-use Rattle.rules.specs.Refusal.{numberOf, firstOf}
+use Rattle.rules.specs.Refusal.{Outcome, Result, numberOf, firstOf, result}
+use Rattle.rules.specs.Refusal.Refusal.{wrong-length, broken-rule}
+use Rattle.rules.specs.Refusal.Outcome.{refuse}
 use Rattle.rules.specs.Answers.{outcomeNumber}
 use Rattle.rules.specs.Lengths.{buffersFit, headLength, headFits, countsFit, lengthWrong}
 use Rattle.rules.specs.Integrity.{ordered, timesRight, noneEmpty, noOverlap, onDevice, inFiles, bytesKeepRules, recordsKeepRules, booksKeepRules, booksBroken, mappedBlocks, mappedUsed, mappedLive, mappedUnreserved, mappedRight, reservedRight, retiredRight, nonePast, mapsKeepRules, mapsBroken, ruleBroken, storeCases}
-use Rattle.rules.proofs.ListLaws.{test-cases, and-right, all-append}
+use Rattle.rules.proofs.ListLaws.{test-cases, if-true, if-false, and-right, all-append}
 use Rattle.rules.proofs.PassLaws.{each-passed, BuffersSized, HeadRoom, buffers-sized, head-room, all-and, mappable, mapped-all, all-mapped, Passes}
 use Rattle.bitmap.specs.Pair.{only, inside}
 use Rattle.bitmap.proofs.PairLaws.{same-tests}
@@ -161,3 +163,22 @@ module _ (s : Store) where
       test-cases (Passes s) (lengthWrong s) (λ t. absurd (omega (arith, number-one (lengthWrong s) refl t)))
       (λ t. test-cases (Passes s) (ruleBroken s) (λ z. absurd (omega (arith, number-two (lengthWrong s) (ruleBroken s) refl t refl z)))
       (λ z. record { lengths = t; rules = z }))
+
+-- ---- a call stopped by them
+
+-- a call that refusal 1 or 2 stops gives its number, whatever it would go on with, and leaves the store and the output buffer
+pub stopped : (s : Store) (out : List ℕ) (next : Outcome) (n : ℕ) → n ≡ storeNumber s → (n ≡ 0 → ⊥)
+    → _≡_ {A = Result} (record { number = n; count = 0; store = s; out = out }) (result s out (firstOf (storeCases s) next))
+unfolding storeNumber storeCases firstOf outcomeNumber result numberOf
+stopped s out next n e z =
+    test-cases _ (lengthWrong s)
+    (λ t. let m : n ≡ 1 = e ∙ ap outcomeNumber (if-true (lengthWrong s) (refuse wrong-length) _ t) in
+    rw (m, if-true (lengthWrong s) (refuse wrong-length) (if ruleBroken s then refuse broken-rule else next) t) refl)
+    (λ t. test-cases _ (ruleBroken s)
+    (λ u. let m : n ≡ 2 = e ∙ ap outcomeNumber (if-false (lengthWrong s) (refuse wrong-length) _ t ∙ if-true (ruleBroken s) (refuse broken-rule) _ u) in
+    rw (m, if-false (lengthWrong s) (refuse wrong-length) (if ruleBroken s then refuse broken-rule else next) t, if-true (ruleBroken s) (refuse broken-rule) next u) refl)
+    (λ u. absurd (z (e ∙ ap outcomeNumber (if-false (lengthWrong s) (refuse wrong-length) _ t ∙ if-false (ruleBroken s) (refuse broken-rule) _ u)))))
+
+-- where neither comes the store passes
+pub not-stopped : (s : Store) (n : ℕ) → n ≡ storeNumber s → n ≡ 0 → Passes s
+not-stopped s n e z = number-passes s (sym e ∙ z)

@@ -21,10 +21,9 @@ use Rattle.rules.specs.Book.{decodeBook, decodeBooks, encodeBook, bookPlaces}
 use Rattle.rules.specs.Store.{Store, Volume, lent, StoreBytes, decode, decodeWith, headOf, encodeInto, imageBlocks, cardOf}
 use Rattle.rules.specs.Refusal.{Outcome, numberOf, firstOf, result}
 use Rattle.rules.specs.Refusal.Outcome.{refuse, accept}
-use Rattle.rules.specs.Refusal.Refusal.{wrong-length, broken-rule, card-exists, bad-time, no-card-place}
-use Rattle.rules.specs.Answers.{outcomeNumber}
-use Rattle.rules.specs.Lengths.{lengthWrong, freshLengthWrong, buffersFit, headLength}
-use Rattle.rules.specs.Integrity.{ordered, ruleBroken, storeCases}
+use Rattle.rules.specs.Refusal.Refusal.{wrong-length, card-exists, bad-time, no-card-place}
+use Rattle.rules.specs.Lengths.{freshLengthWrong, buffersFit, headLength}
+use Rattle.rules.specs.Integrity.{ordered}
 use Rattle.rules.specs.Arguments.{hasCard, timeWrong, cardsFull}
 use Rattle.rules.specs.Fresh.{freshVolume, freshOutcome}
 use Rattle.rules.specs.Enter.{newCard, entered, enterCases, enterOutcome}
@@ -40,30 +39,14 @@ use Rattle.rules.proofs.BookLaws.{length-decodeBook}
 use Rattle.rules.proofs.EnterLaws.{TimeRight, time-right}
 use Rattle.rules.proofs.StoreAfter.{fresh-left, enter-left, settle-left}
 use Rattle.intake.specs.Join.{storeNumber}
-use Rattle.intake.proofs.JoinLaws.{number-passes}
+use Rattle.intake.proofs.JoinLaws.{stopped}
 use Rattle.store.specs.Buffers.{freshHead, oneCardMore, enterNumber, CardsRight, EnterReady}
-use Rattle.volume.specs.Call.{handed, gave}
+use Rattle.volume.specs.Call.{gave}
 
 -- ---- refusals 1 and 2
 
--- a call that refusal 1 or 2 stops gives its number, whatever it would go on with, and leaves the store and the output buffer
-pub stopped : (s : Store) (out : List ℕ) (next : Outcome) (n : ℕ) → n ≡ storeNumber s → (n ≡ 0 → ⊥) → handed n 0 s out ≡ result s out (firstOf (storeCases s) next)
-unfolding storeNumber storeCases firstOf outcomeNumber result numberOf
-stopped s out next n e z =
-    test-cases _ (lengthWrong s)
-    (λ t. let m : n ≡ 1 = e ∙ ap outcomeNumber (if-true (lengthWrong s) (refuse wrong-length) _ t) in
-    rw (m, if-true (lengthWrong s) (refuse wrong-length) (if ruleBroken s then refuse broken-rule else next) t) refl)
-    (λ t. test-cases _ (ruleBroken s)
-    (λ u. let m : n ≡ 2 = e ∙ ap outcomeNumber (if-false (lengthWrong s) (refuse wrong-length) _ t ∙ if-true (ruleBroken s) (refuse broken-rule) _ u) in
-    rw (m, if-false (lengthWrong s) (refuse wrong-length) (if ruleBroken s then refuse broken-rule else next) t, if-true (ruleBroken s) (refuse broken-rule) next u) refl)
-    (λ u. absurd (z (e ∙ ap outcomeNumber (if-false (lengthWrong s) (refuse wrong-length) _ t ∙ if-false (ruleBroken s) (refuse broken-rule) _ u)))))
-
--- where neither comes the store passes
-pub not-stopped : (s : Store) (n : ℕ) → n ≡ storeNumber s → n ≡ 0 → Passes s
-not-stopped s n e z = number-passes s (sym e ∙ z)
-
 module _ (s : Store) (n : ℕ) (e : n ≡ storeNumber s) (z : n ≡ 0 → ⊥) where
-  -- so fill
+  -- fill
   pub fill-stopped : gave n 0 s ≡ call (look fill) s
   unfolding call fillOutcome
   fill-stopped = stopped s [] _ n e z

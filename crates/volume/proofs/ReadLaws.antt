@@ -32,6 +32,7 @@ use Rattle.rules.proofs.PassLaws.{Passes, Lawful, passes-head, lawful-decode}
 use Rattle.rules.proofs.OutcomeLaws.{goes-on}
 use Rattle.rules.proofs.UnitListLaws.{unitsOf-some}
 use Rattle.intake.specs.Join.{storeNumber}
+use Rattle.intake.proofs.JoinLaws.{stopped}
 use Rattle.mapping.specs.Entries.{slotOf}
 use Rattle.mapping.proofs.LookupLaws.{passes-extents, passes-groups}
 use Rattle.inspect.specs.Mapped.{checkMapped}
@@ -39,7 +40,7 @@ use Rattle.inspect.proofs.InspectLaws.{check-mapped}
 use Rattle.read.specs.Range.{checkedRange}
 use Rattle.read.specs.Gives.{Gives, gives, givesChecked, checkedUnits, givesSized, givesRead, ReadReady}
 use Rattle.volume.specs.Call.{handed}
-use Rattle.volume.proofs.CallLaws.{stopped, blocks-are, cards-counted}
+use Rattle.volume.proofs.CallLaws.{blocks-are, cards-counted}
 
 -- ---- what the inner call asks for
 

@@ -27,13 +27,13 @@ use Rattle.rules.proofs.PassLaws.{Passes}
 use Rattle.rules.proofs.OutcomeLaws.{goes-on}
 use Rattle.rules.proofs.Refused.{numbered}
 use Rattle.intake.specs.Join.{storeNumber}
+use Rattle.intake.proofs.JoinLaws.{stopped}
 use Rattle.read.specs.Gives.{Gives, gives, givesRead}
 use Rattle.read_checks.specs.Reads.{Looked, looked, firstNumber, readNumber, cardIn, pairsRead, pairsTouched}
 use Rattle.read_checks.proofs.StretchLaws.{first-none, first-pass, first-stop}
 use Rattle.read_many.specs.Many.{handedAll, givesAll, givesMany}
 use Rattle.read_many.proofs.PieceLaws.{read-number}
 use Rattle.volume.specs.Call.{handed}
-use Rattle.volume.proofs.CallLaws.{stopped}
 use Rattle.volume.proofs.ReadLaws.{resulting, single-gives}
 
 -- an outcome with number 0 is accepted: what it leaves and gives

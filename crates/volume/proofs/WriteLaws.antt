@@ -11,9 +11,9 @@ use Rattle.rules.specs.Write.{writeOutcome, growOutcome}
 use Rattle.rules.specs.Call.{call}
 use Rattle.rules.specs.Call.Call.{write, grow}
 use Rattle.intake.specs.Join.{storeNumber}
+use Rattle.intake.proofs.JoinLaws.{stopped, not-stopped}
 use Rattle.write.specs.Call.{StoreReady, answered}
 use Rattle.volume.specs.Call.{gave}
-use Rattle.volume.proofs.CallLaws.{stopped, not-stopped}
 
 -- what the inner calls ask for
 pub store-ready : (s : Store) (n : ℕ) → n ≡ storeNumber s → n ≡ 0 → StoreBytes s → StoreReady s

@@ -1,7 +1,8 @@
 // The public calls.
 //
 // Each call is lent the whole store, seven buffers, and then its own arguments. It tries its refusals in the order of their numbers, all of them before
-// it changes a byte, and answers a number and a count: a refused call gives its number with count 0 and leaves every buffer as it was.
+// it changes a byte, and answers a number and a count: a refused call gives its number with count 0 and leaves every buffer as it was. A batch of writes
+// does so for its own refusals, 1, 2 and 18; stopped by one of its writes it gives that refusal's number with the count of the writes before it.
 //
 // An export joins two parts: the tests, over the lent buffers as they are, and an inner call, which may take for granted that the tests passed.
 ghost use mathlib.Core.Path.{_≡_};
@@ -9,6 +10,8 @@ ghost use Rattle.rules.specs.Store.{lent};
 ghost use Rattle.rules.specs.Call.{call};
 ghost use Rattle.rules.specs.Call.Look.{read, readMany, fill};
 ghost use Rattle.rules.specs.Call.Call.{fresh, enter, write, grow, settle, look};
+ghost use Rattle.rules.specs.Act.{act};
+ghost use Rattle.rules.specs.Act.Act.{batch};
 ghost use Rattle.volume.specs.Call.{handed, gave};
 use format::sizes::BLOCK_BYTES;
 use write::MOST_RUNS;
@@ -183,6 +186,47 @@ pub extern "C" fn sangueko_write(
         MOST_RUNS,
         object,
         offset,
+        bytes,
+        seconds,
+        nanoseconds,
+    );
+    Answer {
+        number: done.number,
+        count: done.count,
+    }
+}
+
+// The writes of a list of triples (object, offset, length), one after another, each as a single write of the bytes that are next, with one time. It stops
+// at the first that is refused: the count is the number of writes done, and the number says what stopped it, or 0.
+#[no_mangle]
+pub extern "C" fn sangueko_write_batch(
+    image: &mut [u8],
+    head: &mut [u8],
+    cards: &mut [u8],
+    extents: &mut [u8],
+    groups: &mut [u8],
+    used: &mut [u8],
+    retired: &mut [u8],
+    list: &[u8],
+    bytes: &[u8],
+    seconds: u64,
+    nanoseconds: u64,
+) -> Answer
+    ensures { λ r. ⌜ gave (r .number) (r .count) (lent (now (image .exit)) (now (head .exit)) (now (cards .exit)) (now (extents .exit)) (now (groups .exit)) (now (used .exit)) (now (retired .exit))) ≡ act (batch (now (list .entry)) (now (bytes .entry)) (record { seconds = seconds; nanoseconds = nanoseconds })) (lent (now (image .entry)) (now (head .entry)) (now (cards .entry)) (now (extents .entry)) (now (groups .entry)) (now (used .entry)) (now (retired .entry))) ⌝ }
+{
+    let number = intake::refused(image, head, cards, extents, groups, used, retired);
+    if number != 0 {
+        return Answer { number, count: 0 };
+    }
+    let done = batch::write_batch(
+        image,
+        head,
+        cards,
+        extents,
+        groups,
+        used,
+        retired,
+        list,
         bytes,
         seconds,
         nanoseconds,

@@ -11,4 +11,5 @@ pub mod Order
 pub mod Run
 pub mod Fill
 pub mod ReadMany
+pub mod Batches
 pub mod KeptBlocks

@@ -1,6 +1,7 @@
 -- `volume::sangueko_enter` meets its contract.
 -- Assumes nothing.
-use Rattle.volume.proofs.CallLaws.{not-stopped, enter-stopped, head-width, cards-counted, enter-refused′, enter-ready′, enter-done′}
+use Rattle.intake.proofs.JoinLaws.{not-stopped}
+use Rattle.volume.proofs.CallLaws.{enter-stopped, head-width, cards-counted, enter-refused′, enter-ready′, enter-done′}
 use borrow.Author.Needs.{needs}
 use Rattle.volume.proofs.sangueko_enter.Statement.{statement}
 use Rattle.volume.proofs.sangueko_enter.Tie as tie

@@ -1,6 +1,7 @@
 -- `volume::sangueko_fill` meets its contract.
 -- Assumes nothing.
-use Rattle.volume.proofs.CallLaws.{not-stopped, fill-stopped, head-width, used-sized, few-blocks, reserved-inside, fill-done}
+use Rattle.intake.proofs.JoinLaws.{not-stopped}
+use Rattle.volume.proofs.CallLaws.{fill-stopped, head-width, used-sized, few-blocks, reserved-inside, fill-done}
 use borrow.Author.Needs.{needs}
 use native.Mathlib.Omega.{arith}
 use Rattle.volume.proofs.sangueko_fill.Statement.{statement}

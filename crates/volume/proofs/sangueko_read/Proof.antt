@@ -1,6 +1,6 @@
 -- `volume::sangueko_read` meets its contract.
 -- Assumes nothing.
-use Rattle.volume.proofs.CallLaws.{not-stopped}
+use Rattle.intake.proofs.JoinLaws.{not-stopped}
 use Rattle.volume.proofs.ReadLaws.{read-ready, read-stopped, read-gives}
 use borrow.Author.Needs.{needs}
 use Rattle.volume.proofs.sangueko_read.Statement.{statement}

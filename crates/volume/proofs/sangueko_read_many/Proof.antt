@@ -1,6 +1,6 @@
 -- `volume::sangueko_read_many` meets its contract.
 -- Assumes nothing.
-use Rattle.volume.proofs.CallLaws.{not-stopped}
+use Rattle.intake.proofs.JoinLaws.{not-stopped}
 use Rattle.volume.proofs.ReadLaws.{read-ready}
 use Rattle.volume.proofs.ReadManyLaws.{many-stopped, many-gives}
 use borrow.Author.Needs.{needs}

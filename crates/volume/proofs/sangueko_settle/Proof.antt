@@ -1,6 +1,7 @@
 -- `volume::sangueko_settle` meets its contract.
 -- Assumes nothing.
-use Rattle.volume.proofs.CallLaws.{not-stopped, settle-stopped, used-sized, retired-sized, settle-done}
+use Rattle.intake.proofs.JoinLaws.{not-stopped}
+use Rattle.volume.proofs.CallLaws.{settle-stopped, used-sized, retired-sized, settle-done}
 use borrow.Author.Needs.{needs}
 use Rattle.volume.proofs.sangueko_settle.Statement.{statement}
 use Rattle.volume.proofs.sangueko_settle.Tie as tie

@@ -1,0 +1,265 @@
+-- Laws of a batch of writes: the tests of its list, one write of it, and its writes one after another.
+-- Assumes nothing.
+use mathlib.Core.Path.{_≡_, refl, sym, ap, ap₂, subst, _∙_}
+use mathlib.Core.Bool.{Bool, true, false, not, _||_}
+use mathlib.Core.List.{List, [], _∷_}
+use Prim.Native.Nat.{ℕ, suc, _+_, _-_, _*_, _/_, _%_, _≤_, _<_}
+use native.Mathlib.Omega.{arith}
+use lib.Dec.{eqb, leb, ltb}
+use lib.ListN.{length, take, drop}
+use lib.Seq.{drop-drop}
+use borrow.Author.Tests.{eqb-true, ltb-false, leb-true, le-leb, not-false}
+use Rattle.rules.specs.Sizes.{mostRuns, mostBlocks}
+use Rattle.rules.specs.Lists.{if_then_else_, all}
+use Rattle.rules.specs.Bytes.{Bytes}
+use Rattle.rules.specs.Time.{Time}
+use Rattle.rules.specs.Head.{Head, decodeHead}
+use Rattle.rules.specs.Extent.{extentBytes, decodeExtent}
+use Rattle.rules.specs.Book.{bookPlaces, decodeBook, decodeBooks}
+use Rattle.rules.specs.Store.{Store, StoreBytes, decode, decodeWith}
+use Rattle.rules.specs.Refusal.{Outcome, Result, numberOf, result}
+use Rattle.rules.specs.Refusal.Outcome.{refuse, accept}
+use Rattle.rules.specs.Answers.{outcomeNumber}
+use Rattle.rules.specs.Write.{writeOutcome}
+use Rattle.rules.specs.Triples.{Triple, tripleBytes, mostTriples, decodeTriple, decodeTriples, listWrong, lengthsOf}
+use Rattle.rules.specs.Batch.{lengthOver, batchWrong, batchGives, afterWrite, batchFrom, unless}
+use Rattle.rules.specs.Integrity.{onDevice, mappedBlocks}
+use Rattle.rules.specs.Call.{Call, InRange, WordTime, call}
+use Rattle.rules.specs.Call.Call.{write}
+use Rattle.rules.proofs.ListLaws.{or-none-left, or-none-right, all-weaken, each-at}
+use Rattle.rules.proofs.ByteLaws.{bytes-take, bytes-drop}
+use Rattle.rules.proofs.PassLaws.{Passes, passes-head, passes-room, lawful-decode}
+use Rattle.rules.proofs.CountLaws.{Once}
+use Rattle.rules.proofs.OutcomeLaws.{never-zero, goes-on}
+use Rattle.rules.proofs.BytesKept.{bytes-kept}
+use Rattle.rules.proofs.BatchLaws.{nextWrite, TripleInRange, triples-in-range}
+use Rattle.history.proofs.UnsharedLaws.{Unshared, Safe, few-blocks, write-safe}
+use Rattle.format.specs.declared.head.Head as headStruct
+use Rattle.format.specs.Records.{headOf}
+use Rattle.book.proofs.SearchLaws.{record-at}
+use Rattle.intake.specs.Join.{storeNumber}
+use Rattle.intake.proofs.JoinLaws.{stopped, not-stopped}
+use Rattle.triples.specs.declared.Triple as struct
+use Rattle.triples.specs.Triple.{tripleOf, tripleAt, triplesFrom}
+use Rattle.triples.proofs.TripleLaws.{length-triples, from-start, from-here, from-end}
+use Rattle.write.specs.Call.{StoreReady, answered}
+use Rattle.batch.specs.Batch.{Wrote, batchTried, extentsCounted, ExtentsPlaced}
+
+-- ---- the list
+
+module _ (list bytes : List ℕ) where
+  -- not whole triples, or too many
+  pub wrong-list : (m : Bool) → m ≡ listWrong list → m ≡ true → true ≡ batchWrong list bytes
+  unfolding batchWrong
+  wrong-list m e t = rw (← e, t) refl
+
+  -- a length too long
+  pub wrong-length : (m k : Bool) → m ≡ listWrong list → m ≡ false → k ≡ lengthOver (decodeTriples list) → k ≡ true → true ≡ batchWrong list bytes
+  unfolding batchWrong
+  wrong-length m k e t f u = rw (← e, t, ← f, u) refl
+
+  -- the lengths together
+  pub wrong-sum : (m k r : Bool) → m ≡ listWrong list → m ≡ false → k ≡ lengthOver (decodeTriples list) → k ≡ false
+      → r ≡ not (eqb (lengthsOf (decodeTriples list)) (length bytes)) → r ≡ batchWrong list bytes
+  unfolding batchWrong
+  wrong-sum m k r e t f u g = rw (← e, t, ← f, u) g
+
+  -- so the lengths add up to the bytes where the list is right
+  pub lengths-add : batchWrong list bytes ≡ false → lengthsOf (decodeTriples list) ≡ length bytes
+  unfolding batchWrong
+  lengths-add e =
+      eqb-true (lengthsOf (decodeTriples list)) (length bytes) (not-false (eqb (lengthsOf (decodeTriples list)) (length bytes))
+      (or-none-right (listWrong list || lengthOver (decodeTriples list)) (not (eqb (lengthsOf (decodeTriples list)) (length bytes))) e))
+
+  -- and there are not too many
+  pub list-short : batchWrong list bytes ≡ false → length list / tripleBytes ≤ mostTriples
+  unfolding batchWrong listWrong
+  list-short e =
+      ltb-false mostTriples (length list / tripleBytes) (or-none-right (not (eqb (length list % tripleBytes) 0)) (ltb mostTriples (length list / tripleBytes))
+      (or-none-left (listWrong list) (lengthOver (decodeTriples list)) (or-none-left (listWrong list || lengthOver (decodeTriples list)) (not (eqb (lengthsOf (decodeTriples list)) (length bytes))) e)))
+
+-- ---- one write
+
+-- neither refusal 1 nor 2 comes on a store that passes
+pub none-comes : (s : Store) → Passes s → 0 ≡ storeNumber s
+unfolding storeNumber outcomeNumber
+none-comes s p = sym (ap outcomeNumber (goes-on s (accept 0 s []) p))
+
+module _ (object offset : ℕ) (bytes : List ℕ) (seconds nanoseconds : ℕ) (s : Store) where
+  -- stopped by refusal 1 or 2
+  pub write-stopped : (n : ℕ) → n ≡ storeNumber s → (n ≡ 0 → ⊥) → Wrote object offset bytes seconds nanoseconds s n s
+  write-stopped n e z =
+      let q : _≡_ {A = Result} (answered n 0 s) (call (write object offset bytes (record { seconds = seconds; nanoseconds = nanoseconds })) s) = unfold call writeOutcome in stopped s [] _ n e z in
+      record { number-is = ap (λ (r : Result). r .number) q; left-is = ap (λ (r : Result). r .store) q }
+
+  -- done, as the inner call does it
+  pub write-done : (n k : ℕ) (t : Store) → answered n k t ≡ result s [] (writeOutcome mostRuns object offset bytes (record { seconds = seconds; nanoseconds = nanoseconds }) s)
+      → Wrote object offset bytes seconds nanoseconds s n t
+  write-done n k t e =
+      let q : _≡_ {A = Result} (answered n k t) (call (write object offset bytes (record { seconds = seconds; nanoseconds = nanoseconds })) s) = unfold call in e in
+      record { number-is = ap (λ (r : Result). r .number) q; left-is = ap (λ (r : Result). r .store) q }
+
+-- what becomes of a write that is accepted: the batch goes on
+after-accepted : (done : ℕ) (s : Store) (o : Outcome) (next : ℕ → Store → Result) → result s [] o .number ≡ 0 → afterWrite done s o next ≡ next (suc done) (result s [] o .store)
+unfolding afterWrite result
+after-accepted done s (refuse r) next e = absurd (unfold result in never-zero s [] r e)
+after-accepted done s (accept n left out) next e = refl
+
+-- and of one that is refused: it stops
+after-refused : (done : ℕ) (s : Store) (o : Outcome) (next : ℕ → Store → Result) → (result s [] o .number ≡ 0 → ⊥)
+    → afterWrite done s o next ≡ batchGives (result s [] o .number) done (result s [] o .store)
+unfolding afterWrite result
+after-refused done s (refuse r) next z = refl
+after-refused done s (accept n left out) next z = absurd (z refl)
+
+-- ---- the writes one after another
+
+-- the triple at a place of a list of bytes has numbers of 64 bits
+triple-in-range : (list : List ℕ) → Bytes list → (i : ℕ) → i < length list / tripleBytes → TripleInRange (tripleAt list i)
+unfolding decodeTriples tripleAt
+triple-in-range list b i l =
+    subst TripleInRange (record-at decodeTriple tripleBytes list (length list / tripleBytes) i (decodeTriple []) l)
+    (each-at (triples-in-range list b) i (decodeTriple []) (rw (length-triples list) l))
+
+module _ (list bytes : List ℕ) (seconds nanoseconds : ℕ) (shared : Bool) (start : Store) where
+  -- the time of all of them
+  abbrev time : Time
+  time = record { seconds = seconds; nanoseconds = nanoseconds }
+
+  -- what holds before the write at place i, whose bytes begin at place: those from there on do to this store what all of them do to the first; it passes
+  -- refusals 1 and 2 where they are not tried, and maps no block twice where none was shared
+  pub record Between (again : Bool) (i place : ℕ) (s : Store) : Type 0 where
+    pub room : place + lengthsOf (triplesFrom list i) ≡ length bytes
+    pub lent-bytes : StoreBytes s
+    pub tested : again ≡ false → Passes s
+    pub safe : shared ≡ false → Safe s
+    pub same : batchFrom (triplesFrom list i) (drop place bytes) time i s ≡ batchFrom (decodeTriples list) bytes time 0 start
+
+  -- before the first
+  pub between-first : StoreReady start → (shared ≡ false → Unshared (decode start)) → lengthsOf (decodeTriples list) ≡ length bytes → Between false 0 0 start
+  between-first r u e = record {
+    room = let z : lengthsOf (triplesFrom list 0) ≡ lengthsOf (decodeTriples list) = ap lengthsOf (from-start list) in omega (arith, z, e);
+    lent-bytes = r .lent-bytes;
+    tested = λ z. r .passes;
+    safe = λ z. record { passes = r .passes; unshared = u z };
+    same = ap (λ (ts : List Triple). batchFrom ts bytes time 0 start) (from-start list);
+  }
+
+  module _ (again : Bool) (i n place : ℕ) (s : Store) (q : n ≡ length list / tripleBytes) (h : Between again i place s) where
+    module _ (t : struct.Triple) (l : i < n) (d : tripleOf t ≡ tripleAt list i) where
+      -- the triple, and those behind it
+      here : triplesFrom list i ≡ tripleOf t ∷ triplesFrom list (i + 1)
+      here = from-here list i (omega (arith, l, q)) ∙ ap (λ (u : Triple). u ∷ triplesFrom list (i + 1)) (sym d)
+
+      -- their lengths
+      lengths-here : lengthsOf (triplesFrom list i) ≡ t .len + lengthsOf (triplesFrom list (i + 1))
+      unfolding lengthsOf tripleOf
+      lengths-here = ap lengthsOf here
+
+      -- the bytes of the write are there
+      pub bytes-there : place + t .len ≤ length bytes
+      bytes-there = omega (arith, h .room, lengths-here)
+
+      -- the write as a call
+      abbrev next : Call
+      next = nextWrite (tripleOf t) (drop place bytes) time
+
+      module _ (number : ℕ) (left : Store) (w : Wrote (t .object) (t .offset) (take (place + t .len - place) (drop place bytes)) seconds nanoseconds s number left) where
+        -- it was done as that call
+        done-is : (number ≡ call next s .number) × (left ≡ call next s .store)
+        unfolding tripleOf
+        done-is = let z : place + t .len - place ≡ t .len = omega arith in
+            (rw z at w .number-is, rw z at w .left-is)
+
+        -- refused: the batch stops
+        pub between-stopped : (number ≡ 0 → ⊥) → answered number i left ≡ batchFrom (decodeTriples list) bytes time 0 start
+        unfolding batchFrom call
+        between-stopped z =
+            sym (sym (h .same) ∙ ap (λ (ts : List Triple). batchFrom ts (drop place bytes) time i s) here
+            ∙ after-refused i s _ _ (λ e. z (done-is .0 ∙ e)) ∙ ap₂ (λ (k : ℕ) (x : Store). batchGives k i x) (sym (done-is .0)) (sym (done-is .1)))
+
+        -- done: what held before it holds before the next
+        pub between-more : Bytes list → Bytes bytes → WordTime time → number ≡ 0 → Between shared (i + 1) (place + t .len) left
+        between-more b k m z = record {
+          room = omega (arith, h .room, lengths-here);
+          lent-bytes = rw (done-is .1) (bytes-kept next s range (h .lent-bytes));
+          tested = λ e. safe e .passes;
+          safe = safe;
+          same = goes;
+        }
+          where
+            range : InRange next
+            range =
+                let w : TripleInRange (tripleOf t) = rw d (triple-in-range list b i (omega (arith, l, q))) in
+                (w .0, w .1, bytes-take (tripleOf t .len) (drop place bytes) (bytes-drop place bytes k), m)
+
+            accepted : call next s .number ≡ 0
+            accepted = sym (done-is .0) ∙ z
+
+            safe : shared ≡ false → Safe left
+            safe e = rw (done-is .1) (unfold call in write-safe mostRuns (tripleOf t .object) (tripleOf t .offset) (take (tripleOf t .len) (drop place bytes)) time s range (h .lent-bytes) (h .safe e) (unfold call in accepted))
+
+            goes : batchFrom (triplesFrom list (i + 1)) (drop (place + t .len) bytes) time (i + 1) left ≡ batchFrom (decodeTriples list) bytes time 0 start
+            goes =
+                let e : i + 1 ≡ suc i = omega arith in
+                let c : batchFrom (triplesFrom list i) (drop place bytes) time i s ≡ batchFrom (triplesFrom list (i + 1)) (drop (t .len) (drop place bytes)) time (suc i) (call next s .store) =
+                ap (λ (ts : List Triple). batchFrom ts (drop place bytes) time i s) here ∙ first in
+                rw (done-is .1, ← drop-drop (t .len) place bytes) (ap (λ (k : ℕ). batchFrom (triplesFrom list (i + 1)) (drop (t .len) (drop place bytes)) time k (call next s .store)) e ∙ sym c ∙ h .same)
+              where
+                first : batchFrom (tripleOf t ∷ triplesFrom list (i + 1)) (drop place bytes) time i s ≡ batchFrom (triplesFrom list (i + 1)) (drop (t .len) (drop place bytes)) time (suc i) (call next s .store)
+                first = unfold batchFrom call tripleOf in after-accepted i s _ _ (unfold call in accepted)
+
+    -- all were done
+    pub between-last : n ≤ i → answered 0 i s ≡ batchFrom (decodeTriples list) bytes time 0 start
+    unfolding batchFrom
+    between-last l = ap (λ (ts : List Triple). batchFrom ts (drop place bytes) time i s) (sym (from-end list i (omega (arith, l, q)))) ∙ h .same
+
+-- ---- blocks that are shared
+
+module _ (s : Store) (r : StoreReady s) where
+  -- the extents have their places, and lie on the device
+  pub extents-placed : ExtentsPlaced (s .head) (s .extents)
+  unfolding decode decodeWith decodeBooks onDevice bookPlaces
+  extents-placed = record {
+    width = passes-head s (r .passes);
+    room = omega (arith, passes-room s (r .passes) .extents);
+    device = all-weaken (λ e. leb (e .physical + e .count) mostBlocks) (λ e. leb (e .physical + e .count) (decodeHead (s .head) .blocks)) (extentsCounted (s .head) (s .extents))
+        (λ e t. le-leb (e .physical + e .count) mostBlocks (omega (arith, few-blocks s (r .passes), leb-true (e .physical + e .count) (decodeHead (s .head) .blocks) t)))
+        (lawful-decode s (r .passes) .device);
+  }
+
+  -- no block of theirs is mapped twice: so none of the store's is
+  pub unshared-all : Once (mappedBlocks (extentsCounted (s .head) (s .extents))) → Unshared (decode s)
+  unfolding decode decodeWith decodeBooks
+  unshared-all o = o
+
+-- the head that was read counts them
+module _ (head extents : List ℕ) where
+  -- what is asked for of them
+  pub head-counts : ExtentsPlaced head extents → (h : headStruct.Head) → headOf h ≡ decodeHead head
+      → (extentBytes * h .extents ≤ length extents) × (all (λ e. leb (e .physical + e .count) mostBlocks) (decodeBook decodeExtent extentBytes (h .extents) extents) ≡ true)
+  unfolding headOf
+  head-counts p h d =
+      let e : decodeHead head .extents ≡ h .extents = ap (λ (x : Head). x .extents) (sym d) in (
+        subst (λ (n : ℕ). extentBytes * n ≤ length extents) e (p .room),
+        subst (λ (n : ℕ). all (λ x. leb (x .physical + x .count) mostBlocks) (decodeBook decodeExtent extentBytes n extents) ≡ true) e (p .device),
+      )
+
+  -- what was told of them
+  pub counted-once : (h : headStruct.Head) → headOf h ≡ decodeHead head → Once (mappedBlocks (decodeBook decodeExtent extentBytes (h .extents) extents)) → Once (mappedBlocks (extentsCounted head extents))
+  unfolding headOf
+  counted-once h d o = let e : h .extents ≡ decodeHead head .extents = ap (λ (x : Head). x .extents) d in
+      subst (λ (n : ℕ). Once (mappedBlocks (decodeBook decodeExtent extentBytes n extents))) e o
+
+-- ---- the batch
+
+module _ (list bytes : List ℕ) (time : Time) (s : Store) where
+  -- refused by 18
+  pub batch-refused : (m : Bool) → m ≡ batchWrong list bytes → m ≡ true → answered 18 0 s ≡ batchTried list bytes time s
+  unfolding batchTried unless numberOf if_then_else_
+  batch-refused m e t = rw (← e, t) refl
+
+  -- not refused by it
+  pub batch-tried : (m : Bool) → m ≡ batchWrong list bytes → m ≡ false → (g : Result) → g ≡ batchFrom (decodeTriples list) bytes time 0 s → g ≡ batchTried list bytes time s
+  unfolding batchTried unless if_then_else_
+  batch-tried m e t g h = rw (← e, t) h
