@@ -17,12 +17,12 @@ use Rattle.rules.specs.Head.{Head, decodeHead}
 use Rattle.rules.specs.Extent.{extentBytes, decodeExtent}
 use Rattle.rules.specs.Book.{bookPlaces, decodeBook, decodeBooks}
 use Rattle.rules.specs.Store.{Store, StoreBytes, decode, decodeWith}
-use Rattle.rules.specs.Refusal.{Outcome, Result, numberOf, result}
-use Rattle.rules.specs.Refusal.Outcome.{refuse, accept}
+use Rattle.rules.specs.Refusal.{Result, numberOf, result}
+use Rattle.rules.specs.Refusal.Outcome.{accept}
 use Rattle.rules.specs.Answers.{outcomeNumber}
 use Rattle.rules.specs.Write.{writeOutcome}
 use Rattle.rules.specs.Triples.{Triple, tripleBytes, mostTriples, decodeTriple, decodeTriples, listWrong, lengthsOf}
-use Rattle.rules.specs.Batch.{lengthOver, batchWrong, batchGives, afterWrite, batchFrom, unless}
+use Rattle.rules.specs.Batch.{lengthOver, batchWrong, batchGives, batchFrom, unless}
 use Rattle.rules.specs.Integrity.{onDevice, mappedBlocks}
 use Rattle.rules.specs.Call.{Call, InRange, WordTime, call}
 use Rattle.rules.specs.Call.Call.{write}
@@ -30,15 +30,15 @@ use Rattle.rules.proofs.ListLaws.{or-none-left, or-none-right, all-weaken, each
 use Rattle.rules.proofs.ByteLaws.{bytes-take, bytes-drop}
 use Rattle.rules.proofs.PassLaws.{Passes, passes-head, passes-room, lawful-decode}
 use Rattle.rules.proofs.CountLaws.{Once}
-use Rattle.rules.proofs.OutcomeLaws.{never-zero, goes-on}
+use Rattle.rules.proofs.OutcomeLaws.{goes-on}
 use Rattle.rules.proofs.BytesKept.{bytes-kept}
-use Rattle.rules.proofs.BatchLaws.{nextWrite, TripleInRange, triples-in-range}
+use Rattle.rules.proofs.BatchLaws.{after-accepted, after-refused, nextWrite, TripleInRange, triples-in-range}
 use Rattle.history.proofs.UnsharedLaws.{Unshared, Safe, few-blocks, write-safe}
 use Rattle.format.specs.declared.head.Head as headStruct
 use Rattle.format.specs.Records.{headOf}
 use Rattle.book.proofs.SearchLaws.{record-at}
 use Rattle.intake.specs.Join.{storeNumber}
-use Rattle.intake.proofs.JoinLaws.{stopped, not-stopped}
+use Rattle.intake.proofs.JoinLaws.{stopped}
 use Rattle.triples.specs.declared.Triple as struct
 use Rattle.triples.specs.Triple.{tripleOf, tripleAt, triplesFrom}
 use Rattle.triples.proofs.TripleLaws.{length-triples, from-start, from-here, from-end}
@@ -98,19 +98,6 @@ module _ (object offset : ℕ) (bytes : List ℕ) (seconds nanoseconds : ℕ) (s
   write-done n k t e =
       let q : _≡_ {A = Result} (answered n k t) (call (write object offset bytes (record { seconds = seconds; nanoseconds = nanoseconds })) s) = unfold call in e in
       record { number-is = ap (λ (r : Result). r .number) q; left-is = ap (λ (r : Result). r .store) q }
-
--- what becomes of a write that is accepted: the batch goes on
-after-accepted : (done : ℕ) (s : Store) (o : Outcome) (next : ℕ → Store → Result) → result s [] o .number ≡ 0 → afterWrite done s o next ≡ next (suc done) (result s [] o .store)
-unfolding afterWrite result
-after-accepted done s (refuse r) next e = absurd (unfold result in never-zero s [] r e)
-after-accepted done s (accept n left out) next e = refl
-
--- and of one that is refused: it stops
-after-refused : (done : ℕ) (s : Store) (o : Outcome) (next : ℕ → Store → Result) → (result s [] o .number ≡ 0 → ⊥)
-    → afterWrite done s o next ≡ batchGives (result s [] o .number) done (result s [] o .store)
-unfolding afterWrite result
-after-refused done s (refuse r) next z = refl
-after-refused done s (accept n left out) next z = absurd (z refl)
 
 -- ---- the writes one after another
 

@@ -1,6 +1,6 @@
 -- A batch of writes: refused as every call is, or its writes one after another as single calls, up to the first that is refused.
 -- Assumes nothing.
-use mathlib.Core.Path.{_≡_, refl, sym, ap, subst, _∙_}
+use mathlib.Core.Path.{_≡_, refl, ap, _∙_}
 use mathlib.Core.Logic.{_⊎_, inl, inr}
 use mathlib.Core.List.{List, [], _∷_}
 use mathlib.Core.Bool.{Bool, true, false, not, _||_}
@@ -27,7 +27,7 @@ use Rattle.rules.proofs.ListLaws.{if-cases, Each, each-none, each-more}
 use Rattle.rules.proofs.ByteLaws.{le-part-lt, bytes-take, bytes-drop}
 use Rattle.rules.proofs.BookLaws.{each-decodeBook}
 use Rattle.rules.proofs.Refused.{Numbered, numbered, Unchanged, lentOut, call-cases}
-use Rattle.rules.proofs.OutcomeLaws.{NoneHolds}
+use Rattle.rules.proofs.OutcomeLaws.{NoneHolds, never-zero}
 use Rattle.rules.proofs.BytesKept.{bytes-kept}
 
 -- ---- refused or not
@@ -62,6 +62,19 @@ unless-cases P s next (each-more {x = c} {xs = cs} g gs) h =
 
 -- ---- write by write
 
+-- what becomes of a write that is accepted: the batch goes on
+pub after-accepted : (done : ℕ) (s : Store) (o : Outcome) (next : ℕ → Store → Result) → result s [] o .number ≡ 0 → afterWrite done s o next ≡ next (suc done) (result s [] o .store)
+unfolding afterWrite result
+after-accepted done s (refuse r) next e = absurd (never-zero s [] r (unfold result in e))
+after-accepted done s (accept n left out) next e = refl
+
+-- and of one that is refused: it stops
+pub after-refused : (done : ℕ) (s : Store) (o : Outcome) (next : ℕ → Store → Result) → (result s [] o .number ≡ 0 → ⊥)
+    → afterWrite done s o next ≡ batchGives (result s [] o .number) done (result s [] o .store)
+unfolding afterWrite result
+after-refused done s (refuse r) next z = refl
+after-refused done s (accept n left out) next z = absurd (z refl)
+
 -- a write of the batch as a call: the bytes that are next, as many as it says
 abbrev pub nextWrite : Triple → List ℕ → Time → Call
 nextWrite t bytes time = write (t .object) (t .offset) (take (t .len) bytes) time
@@ -84,34 +97,43 @@ pub record Done (time : Time) (ts : List Triple) (bytes : List ℕ) (before : �
 
 -- so it gives
 pub batch-done : (time : Time) (ts : List Triple) (bytes : List ℕ) (before : ℕ) (s : Store) → Done time ts bytes before s (batchFrom ts bytes time before s)
-unfolding batchFrom afterWrite call result
+unfolding batchFrom
 batch-done time [] bytes before s = record { done = 0; number = 0; left = s; gives = ap (λ (n : ℕ). batchGives 0 n s) (omega arith); writes = all-done }
-batch-done time (t ∷ ts) bytes before s = go (writeOutcome mostRuns (t .object) (t .offset) (take (t .len) bytes) time s) refl (batch-done time ts (drop (t .len) bytes) (suc before))
+batch-done time (t ∷ ts) bytes before s = go (call-cases c s) (batch-done time ts (drop (t .len) bytes) (suc before) (call c s .store))
   where
-    go : (o : Outcome) → result s [] o ≡ call (nextWrite t bytes time) s
-        → ((left : Store) → Done time ts (drop (t .len) bytes) (suc before) left (batchFrom ts (drop (t .len) bytes) time (suc before) left))
-        → Done time (t ∷ ts) bytes before s (afterWrite before s o (batchFrom ts (drop (t .len) bytes) time))
-    go (refuse r) e later =
-        let n : numberOf r ≡ call (nextWrite t bytes time) s .number = ap (λ (x : Result). x .number) e in
-        let k : Numbered (numberOf r) = numbered r in
-        record {
-          done = 0;
-          number = call (nextWrite t bytes time) s .number;
-          left = s;
-          gives = rw (← n) (ap (λ (m : ℕ). batchGives (numberOf r) m s) (omega arith));
-          writes = stopped {t = t} {ts = ts} {bytes = bytes} {s = s} (rw (← n) k);
-        }
-    go (accept n left out) e later =
-        let z : call (nextWrite t bytes time) s .number ≡ 0 = sym (ap (λ (x : Result). x .number) e) in
-        let l : left ≡ call (nextWrite t bytes time) s .store = ap (λ (x : Result). x .store) e in
-        let d = later left in
-        record {
-          done = suc (d .done);
-          number = d .number;
-          left = d .left;
-          gives = d .gives ∙ ap (λ (m : ℕ). batchGives (d .number) m (d .left)) (omega arith);
-          writes = one-done z (subst (λ (x : Store). Batched time ts (drop (t .len) bytes) x (d .done) (d .number) (d .left)) l (d .writes));
-        }
+    c : Call
+    c = nextWrite t bytes time
+
+    o : Outcome
+    o = writeOutcome mostRuns (t .object) (t .offset) (take (t .len) bytes) time s
+
+    next : ℕ → Store → Result
+    next = batchFrom ts (drop (t .len) bytes) time
+
+    is-call : result s [] o ≡ call c s
+    is-call = unfold call in refl
+
+    go : (call c s .number ≡ 0) ⊎ Unchanged s (lentOut c) (call c s) → Done time ts (drop (t .len) bytes) (suc before) (call c s .store) (next (suc before) (call c s .store))
+        → Done time (t ∷ ts) bytes before s (afterWrite before s o next)
+    go (inl e) d = record {
+      done = suc (d .done);
+      number = d .number;
+      left = d .left;
+      gives =
+          after-accepted before s o next (rw is-call e) ∙ ap (λ (r : Result). next (suc before) (r .store)) is-call
+          ∙ d .gives ∙ ap (λ (m : ℕ). batchGives (d .number) m (d .left)) (omega arith);
+      writes = one-done e (d .writes);
+    }
+    go (inr u) d = record {
+      done = 0;
+      number = call c s .number;
+      left = s;
+      gives =
+          let z : before ≡ before + 0 = omega arith in
+          after-refused before s o next (λ e. omega (arith, u .number .least, e, ap (λ (r : Result). r .number) is-call))
+          ∙ rw (is-call, u .store, ← z) refl;
+      writes = stopped (u .number);
+    }
 
 -- ---- the lent list
 

@@ -7,12 +7,12 @@ use Prim.Native.Nat.{ℕ, zero, suc, _+_, _*_, _/_, _%_, _^_, _≤_, _<_}
 use native.Mathlib.Nat.{add-zero, add-suc, suc-add, zero-div, div-one, div-div-eq-div-mul, div-lt-iff-lt-mul, pow-suc, pow-succ', mod-lt, not-suc-le-zero, le-of-suc-le-suc}
 use native.Mathlib.Omega.{arith}
 use lib.Dec.{eqb}
-use lib.ListN.{length, getD, List·getD-eq-default}
+use lib.ListN.{length, getD, replicate, List·getD-eq-default}
 use lib.Seq.{ext-getD}
 use borrow.Author.Tests.{eqb-true, eqb-false}
 use Rattle.rules.specs.Lists.{if_then_else_}
 use Rattle.rules.specs.Bytes.{Bytes, bitSet, byteOf, bitBytes}
-use Rattle.rules.proofs.ListLaws.{test-cases}
+use Rattle.rules.proofs.ListLaws.{test-cases, getD-same}
 use Rattle.rules.proofs.ByteLaws.{bytes-cons}
 
 -- a test as a bit
@@ -82,6 +82,11 @@ bitSet-bitBytes n f k i l =
 pub bitSet-past : (s : List ℕ) (i : ℕ) → 8 * length s ≤ i → bitSet s i ≡ false
 unfolding bitSet
 bitSet-past s i l = rw (List·getD-eq-default s 0 {n = i / 8} (omega arith), zero-div (2 ^ (i % 8))) refl
+
+-- no bit of zeros is set
+pub bits-zero : (n i : ℕ) → bitSet (replicate n 0) i ≡ false
+unfolding bitSet
+bits-zero n i = rw (getD-same {A = ℕ} n 0 (i / 8), zero-div (2 ^ (i % 8))) refl
 
 -- numbers below 2 ^ n with the same n bits are one
 pub same-bits : (n x y : ℕ) → x < 2 ^ n → y < 2 ^ n → ((i : ℕ) → i < n → x / 2 ^ i % 2 ≡ y / 2 ^ i % 2) → x ≡ y

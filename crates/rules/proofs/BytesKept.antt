@@ -38,7 +38,7 @@ use Rattle.rules.proofs.SettleLaws.{look-stays}
 -- ---- what is read
 
 -- the blocks of an image of bytes are bytes
-pub bytes-blocks : (image : List ℕ) → Bytes image → (os : List (Option ℕ)) → Bytes (flatMap (maybe [] (blockAt image)) os)
+bytes-blocks : (image : List ℕ) → Bytes image → (os : List (Option ℕ)) → Bytes (flatMap (maybe [] (blockAt image)) os)
 unfolding flatMap maybe
 bytes-blocks image b [] = bytes-nil
 bytes-blocks image b (none ∷ os) = bytes-blocks image b os
@@ -46,7 +46,7 @@ bytes-blocks image b (some p ∷ os) =
     bytes-append (blockAt image p) (flatMap (maybe [] (blockAt image)) os) (unfold blockAt in bytes-part image (p * blockBytes) blockBytes b) (bytes-blocks image b os)
 
 -- so are a unit's valid bytes
-pub bytes-valid : (v : Volume) (object size unit : ℕ) → Bytes (v .image) → Bytes (validBytes v object size unit)
+bytes-valid : (v : Volume) (object size unit : ℕ) → Bytes (v .image) → Bytes (validBytes v object size unit)
 unfolding validBytes backedBytes
 bytes-valid v object size unit b = bytes-take (validLength size unit) _ (bytes-blocks (v .image) b (validMapping v object size unit))
 
@@ -142,7 +142,7 @@ bytes-writeNew bytes i (none ∷ kept) (c ∷ blocks) image b m =
     (bytes-patch image (c * blockBytes) _ m (bytes-padded blockBytes (part (i * blockBytes) blockBytes bytes) (bytes-part bytes (i * blockBytes) blockBytes b)))
 
 -- the image that units of bytes leave is of bytes
-pub bytes-finishedImage : {rs : List Rewritten} → Each (λ r. Bytes (r .bytes)) rs → (image : List ℕ) → Bytes image → Bytes (finishedImage rs image)
+bytes-finishedImage : {rs : List Rewritten} → Each (λ r. Bytes (r .bytes)) rs → (image : List ℕ) → Bytes image → Bytes (finishedImage rs image)
 unfolding finishedImage
 bytes-finishedImage each-none image b = b
 bytes-finishedImage (each-more {x = r} h k) image b = bytes-finishedImage k _ (bytes-writeNew (r .bytes) 0 (r .kept) (r .blocks) image h b)

@@ -22,15 +22,15 @@ use Rattle.rules.specs.Plain.{File, plainMany}
 use Rattle.rules.proofs.Opened.{opened}
 
 -- a triple
-pub triple : ℕ → ℕ → ℕ → Triple
+unfoldable pub triple : ℕ → ℕ → ℕ → Triple
 triple object offset len = record { object = object; offset = offset; len = len }
 
 -- its bytes, for numbers below 256
-pub laid : ℕ → ℕ → ℕ → List ℕ
+unfoldable pub laid : ℕ → ℕ → ℕ → List ℕ
 laid object offset len = (object ∷ replicate 7 0) ++ (offset ∷ replicate 7 0) ++ (len ∷ replicate 7 0)
 
 -- the bytes of a read of 2^64 - 1 bytes, the most that a triple can ask for
-pub longest : List ℕ
+unfoldable pub longest : List ℕ
 longest = replicate 16 0 ++ replicate 8 255
 
 -- a pair of object and unit

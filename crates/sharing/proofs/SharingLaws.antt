@@ -3,8 +3,7 @@
 use mathlib.Core.Path.{_≡_, refl, sym, ap, _∙_}
 use mathlib.Core.Bool.{Bool, true, false, not, _&&_, _||_}
 use mathlib.Core.List.{List, [], _∷_, _++_, flatMap, append-nil}
-use Prim.Native.Nat.{ℕ, suc, _+_, _-_, _*_, _/_, _%_, _^_, _≤_, _<_}
-use native.Mathlib.Nat.{zero-div, zero-mod}
+use Prim.Native.Nat.{ℕ, suc, _+_, _-_, _*_, _≤_, _<_}
 use native.Mathlib.Omega.{arith}
 use borrow.Author.Tests.{leb-true, ltb-true, ltb-false}
 use lib.Dec.{eqb, leb, ltb}
@@ -15,7 +14,8 @@ use Rattle.rules.specs.Sizes.{mostBlocks}
 use Rattle.rules.specs.Extent.{Extent, extentBytes, decodeExtent}
 use Rattle.rules.specs.Book.{decodeBook}
 use Rattle.rules.specs.Integrity.{mappedBlocks}
-use Rattle.rules.proofs.ListLaws.{test-cases, clash, and-left, and-right, or-right, all-append, any-index, any-at, length-range, getD-range, count-append, member-append, getD-same}
+use Rattle.rules.proofs.BitLaws.{bits-zero}
+use Rattle.rules.proofs.ListLaws.{test-cases, clash, and-left, and-right, or-right, all-append, any-index, any-at, length-range, getD-range, count-append, member-append}
 use Rattle.rules.proofs.CountLaws.{flatMap-append, member-count, member-nil, member-range-of, member-range-in, Once, once-range, count-nil}
 use Rattle.rules.proofs.BookLaws.{decodeBook-add, decodeBook-suc, decodeBook-none}
 use Rattle.bitmap.specs.Map.{withBits}
@@ -124,12 +124,6 @@ module _ (s : List ℕ) (i : ℕ) where
       ∙ ap (λ (t : List ℕ). mappedBlocks (decodeBook decodeExtent extentBytes i s) ++ t) (append-nil (range (here .physical) (here .count)))
 
 -- ---- numbers that are marked
-
--- no bit of zeros is set
-bits-zero : (n k : ℕ) → bitSet (replicate n 0) k ≡ false
-unfolding bitSet
-bits-zero n k =
-    ap (λ (b : ℕ). eqb (b / 2 ^ (k % 8) % 2) 1) (getD-same {A = ℕ} n 0 (k / 8)) ∙ ap (λ (b : ℕ). eqb (b % 2) 1) (zero-div (2 ^ (k % 8))) ∙ ap (λ (b : ℕ). eqb b 1) (zero-mod 2)
 
 -- a member stands in the list once or more
 member-some : (b : ℕ) (xs : List ℕ) → member b xs ≡ true → 0 < count (eqb b) xs

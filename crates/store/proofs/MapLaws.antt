@@ -3,21 +3,20 @@
 use mathlib.Core.Path.{_≡_, sym, ap, _∙_}
 use mathlib.Core.Bool.{Bool, true, false, not, _&&_}
 use mathlib.Core.List.{List}
-use Prim.Native.Nat.{ℕ, _-_, _*_, _/_, _%_, _^_, _≤_, _<_}
+use Prim.Native.Nat.{ℕ, _-_, _*_, _%_, _≤_, _<_}
 use native.Mathlib.Decide.{decLt}
-use native.Mathlib.Nat.{zero-add, zero-div, zero-mod}
+use native.Mathlib.Nat.{zero-add}
 use native.Mathlib.Omega.{arith}
 use borrow.Author.Tests.{lt-ltb, le-ltb}
-use lib.Dec.{eqb, ltb}
+use lib.Dec.{ltb}
 use lib.ListN.{length, take, replicate, length-replicate}
 use lib.Seq.{take-all}
 use Rattle.rules.specs.Lists.{count, range}
 use Rattle.rules.specs.Bytes.{Bytes, patch, bitSet, bitBytes}
 use Rattle.rules.specs.Head.{uuidBytes, encodeHead}
 use Rattle.rules.specs.Map.{mapBytes, encodeMap}
-use Rattle.rules.proofs.ListLaws.{getD-same}
 use Rattle.rules.proofs.ByteLaws.{bytes-replicate}
-use Rattle.rules.proofs.BitLaws.{length-bitBytes, bytes-bitBytes, bitSet-bitBytes, bits-ext}
+use Rattle.rules.proofs.BitLaws.{length-bitBytes, bytes-bitBytes, bitSet-bitBytes, bits-ext, bits-zero}
 use Rattle.words.proofs.NumberLaws.{patch-whole}
 use Rattle.bitmap.specs.Map.{withBits}
 use Rattle.bitmap.specs.Pair.{only}
@@ -41,12 +40,6 @@ unfolding encodeMap
 is-map blocks f m n b h =
     bits-ext m (bitBytes (mapBytes blocks) f 0) b (bytes-bitBytes (mapBytes blocks) f 0) (n ∙ sym (length-bitBytes (mapBytes blocks) f 0))
     (λ k l. h k l ∙ sym (bitSet-bitBytes (mapBytes blocks) f 0 k (rw (← n) l) ∙ ap f (zero-add k)))
-
--- no bit of zeros is set
-bits-zero : (n k : ℕ) → bitSet (replicate n 0) k ≡ false
-unfolding bitSet
-bits-zero n k =
-    ap (λ (b : ℕ). eqb (b / 2 ^ (k % 8) % 2) 1) (getD-same {A = ℕ} n 0 (k / 8)) ∙ ap (λ (b : ℕ). eqb (b % 2) 1) (zero-div (2 ^ (k % 8))) ∙ ap (λ (b : ℕ). eqb b 1) (zero-mod 2)
 
 -- zeros are the map of no block
 pub zero-map : (blocks w : ℕ) (t : List ℕ) → w ≡ mapBytes blocks → t ≡ replicate w 0 → t ≡ encodeMap blocks (λ n. false)

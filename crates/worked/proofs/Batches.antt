@@ -3,20 +3,17 @@
 use mathlib.Core.Path.{_≡_, refl}
 use mathlib.Core.Bool.{Bool, true, false}
 use mathlib.Core.List.{List, [], _∷_, _++_}
-use Prim.Native.Nat.{ℕ, _*_}
+use Prim.Native.Nat.{ℕ}
 use lib.ListN.{replicate}
 use Rattle.rules.specs.Time.{Time}
 use Rattle.rules.specs.Card.{Card}
 use Rattle.rules.specs.Extent.{Extent}
 use Rattle.rules.specs.Store.{Store}
-use Rattle.rules.specs.Triples.{decodeTriples}
-use Rattle.rules.specs.Batch.{lengthOver, batchWrong}
 use Rattle.rules.specs.Call.{call}
 use Rattle.rules.specs.Call.Call.{look}
 use Rattle.rules.specs.Call.Look.{read}
 use Rattle.rules.specs.Act.{act, actRefused}
 use Rattle.rules.specs.Act.Act.{batch}
-use Rattle.rules.specs.Plain.{File, step}
 use Rattle.worked.proofs.Stores.{small, time, card, extent, extents, cards, withHead, withFiles, mapped, computed}
 use Rattle.worked.proofs.ReadMany.{triple}
 
@@ -59,10 +56,6 @@ both = triple 7 0 8 ++ triple 8 0 1
 pub nine : List ℕ
 nine = 1 ∷ 1 ∷ 1 ∷ 1 ∷ 1 ∷ 1 ∷ 1 ∷ 1 ∷ 2 ∷ []
 
--- the plain arrays of file 7
-pub files : List File
-files = record { object = 7; bytes = 1 ∷ 2 ∷ 3 ∷ [] } ∷ []
-
 pub record Batches : Type 0 where
   -- no write: nothing is done, and it is not refused
   pub none : gives one [] [] ≡ (0, 0, false)
@@ -91,24 +84,13 @@ pub record Batches : Type 0 where
   pub r18-more : gives one (triple 7 0 1) (1 ∷ 2 ∷ []) ≡ (18, 0, true)
   pub r18-none : gives one [] (1 ∷ []) ≡ (18, 0, true)
   pub r18-wraps : gives one (triple 7 0 5 ++ triple 7 0 18446744073709551613) (1 ∷ 2 ∷ []) ≡ (18, 0, true)
-  -- "more than 64": writes of no byte, so that nothing else is wrong
-  pub most : batchWrong (replicate (64 * 24) 0) [] ≡ false
-  pub over : batchWrong (replicate (65 * 24) 0) [] ≡ true
-  -- "a length exceeds 1,048,576"
-  pub length-most : lengthOver (decodeTriples (triple 7 0 1048576)) ≡ false
-  pub length-over : lengthOver (decodeTriples (triple 7 0 0 ++ triple 7 0 1048577)) ≡ true
   -- 1 and 2 before 18, and for no write at all
   pub r1-18 : gives (withHead (replicate 27 0) one) (0 ∷ []) [] ≡ (1, 0, true)
   pub r2-18 : gives (mapped 8 0 one) (0 ∷ []) [] ≡ (2, 0, true)
   pub r2-none : gives (mapped 8 0 one) [] [] ≡ (2, 0, true)
-  -- the plain arrays take the writes that were done, and of a refused batch none, whatever it was said to have done
-  pub plain-one : step (record { act = batch (triple 7 1 1 ++ triple 7 4 1) (8 ∷ 9 ∷ []) (time 1 1); refused = false; done = 1 }) files ≡ record { object = 7; bytes = 1 ∷ 8 ∷ 3 ∷ [] } ∷ []
-  pub plain-two : step (record { act = batch (triple 7 1 1 ++ triple 7 4 1) (8 ∷ 9 ∷ []) (time 1 1); refused = false; done = 2 }) files
-      ≡ record { object = 7; bytes = 1 ∷ 8 ∷ 3 ∷ 0 ∷ 9 ∷ [] } ∷ []
-  pub plain-refused : step (record { act = batch (triple 7 1 1) (8 ∷ []) (time 1 1); refused = true; done = 1 }) files ≡ files
 
 pub batches : Batches
-unfolding computed triple answers gives leaves one card8 extent8 shared both nine files
+unfolding computed triple answers gives leaves one card8 extent8 shared both nine
 batches = record {
   none = refl;
   single = refl;
@@ -130,14 +112,7 @@ batches = record {
   r18-more = refl;
   r18-none = refl;
   r18-wraps = refl;
-  most = refl;
-  over = refl;
-  length-most = refl;
-  length-over = refl;
   r1-18 = refl;
   r2-18 = refl;
   r2-none = refl;
-  plain-one = refl;
-  plain-two = refl;
-  plain-refused = refl;
 }

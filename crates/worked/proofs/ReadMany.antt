@@ -14,7 +14,7 @@ use Rattle.rules.specs.Call.Look.{readMany}
 use Rattle.worked.proofs.Stores.{small, time, card, withHead, mapped, imageByte, withCards, computed}
 
 -- a triple's bytes
-pub triple : ℕ → ℕ → ℕ → List ℕ
+unfoldable pub triple : ℕ → ℕ → ℕ → List ℕ
 triple object offset len = leDigits 8 object ++ leDigits 8 offset ++ leDigits 8 len
 
 -- a call's number, its count and the buffer that it leaves
