@@ -1,7 +1,7 @@
 #!/usr/bin/env bash
-# The command `sangueko` on a store in a temporary folder: a file of flags is written, overwritten, shown, settled and read back; a write is killed;
-# then one byte of a copy is damaged in each of several ways, and the refusals are shown in words. Every answer is compared with what it has to be:
-# the script fails where one is not. It needs the archive (`rt staticlib volume`), ends by itself and leaves nothing behind.
+# The command `sangueko` on a store in a temporary folder: a file of flags is written, overwritten, shown, settled and read back; a batch of writes is made,
+# and one that stops; a write is killed; then one byte of a copy is damaged in each of several ways, and the refusals are shown in words. Every answer is
+# compared with what it has to be: the script fails where one is not. It needs the archive (`rt staticlib volume`), ends by itself and leaves nothing behind.
 set -euo pipefail
 cd "$(dirname "$0")/.."
 cargo build --release --offline --quiet --manifest-path host/tool/Cargo.toml
@@ -66,6 +66,30 @@ for range in 59990:20 60990:20 300000:5 449990:10; do
     dd if=flags bs=1 skip="${range%:*}" count="${range#*:}" status=none
 done >expected
 cmp parts expected && echo "the same bytes"
+
+say "Many small updates of a copy at once: a line for each, the bytes as digits or from a file"
+cp -r store updated
+cp flags updated.flags
+# bytes in octal, put into the plain file
+put() { printf "$2" | dd of=updated.flags bs=1 seek="$1" conv=notrunc status=none; }
+printf '7 100 00\n9 2 5345434f4e44\n7 59999 @text\n7 449999 fe\n' >list
+cat list
+run batch updated list
+put 100 '\000'
+put 59999 'a second file\n'
+put 449999 '\376'
+run read updated 7 --out back
+cmp back updated.flags && echo "the same, byte for byte"
+run read updated 9
+
+say "The third of four has no file: the two before it are stored, the fourth is not made"
+printf '7 0 01\n9 2 7365636f6e64\n8 0 00\n7 0 02\n' >list
+ends 3 batch updated list
+put 0 '\001'
+run read updated 7 --out back
+cmp back updated.flags && echo "the same, byte for byte"
+run read updated 9
+ends 0 check updated
 
 say "A write of four calls is killed on the way: the store is as after some whole call"
 run new large --blocks 2000

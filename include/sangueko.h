@@ -14,17 +14,23 @@
  *
  * The three books (cards, extents, groups) have 0 to SANGUEKO_MOST_PLACES places each. The caller chooses the lengths once, calls sangueko_fresh, and
  * lends buffers of the same lengths from then on; the buffers, kept as they are, are the store. sangueko_enter adds a file, sangueko_write and
- * sangueko_grow change it, sangueko_read gives its bytes, and sangueko_read_many those of many ranges at once.
+ * sangueko_grow change it, sangueko_write_batch makes many writes at once, sangueko_read gives a file's bytes, and sangueko_read_many those of many
+ * ranges at once.
  *
  * A call answers a number and a count. Number 0: it did its work, and the count is its answer. Any other number is one of enum sangueko_refusal: the
- * call was refused, its count is 0 and no byte of any buffer has changed. A call tries its refusals in the order of their numbers, but 17 right behind
- * 2, and 9 to 14 unit by unit, and gives the first that applies. It takes any bytes, lengths and numbers whatever: what it cannot work on it refuses.
+ * call was refused, its count is 0 and no byte of any buffer has changed; but sangueko_write_batch can also stop on the way. A call tries its refusals
+ * in the order of their numbers, but 17 and 18 right behind 2, and 9 to 14 unit by unit, and gives the first that applies. It takes any bytes, lengths
+ * and numbers whatever: what it cannot work on it refuses.
+ *
+ * A batch of writes stops at the first write that is refused. Its number is then what that write was refused by, and its count how many writes were
+ * done before it: those remain, the refused one and the later ones did nothing, and this is not a refused call, not even with count 0. Number 0 says
+ * that all were done, as many as the count. The batch itself was refused, and nothing was tried, just where the number is 1, 2 or 18 and the count 0.
  *
  * Proved. Of each call one equation is proved: its number, its count and every byte of the buffers after it are those that the rules give
- * (crates/rules). Of the rules, and so by the equations of these calls, one theorem is proved about every list of calls on a store that
- * sangueko_fresh made (crates/history): reads that are accepted give the bytes that plain arrays would hold after the same calls, every block is
- * reserved, free, retired or at one place of one file, every file's count of blocks is right, and refusals 2, 9 to 12 and 14 never come. Of buffers
- * that something else has changed the theorem says nothing; a call does with them what its equation says.
+ * (crates/rules). Of the rules, and so by the equations of these calls, one theorem is proved about every list of calls on a store that sangueko_fresh
+ * made (crates/history): reads that are accepted give the bytes that plain arrays would hold after the same calls (of a batch, after the writes done),
+ * every block is reserved, free, retired or at one place of one file, every file's count of blocks is right, and refusals 2, 9 to 12 and 14 never come.
+ * Of buffers that something else has changed the theorem says nothing; a call does with them what its equation says.
  *
  * Pointers. A buffer that a call takes as `const` is only read. The others must not overlap any other buffer of the same call. No alignment is asked
  * for. The pointer of an empty buffer may be any that is not null.
@@ -61,7 +67,7 @@ extern "C" {
 #define SANGUEKO_MOST_BLOCKS 65536
 #define SANGUEKO_MOST_PLACES 1048575
 
-/* Bytes that one write or read takes at most; of many reads in one call, each of them. */
+/* Bytes that one write or read takes at most; of many in one call, each of them. */
 #define SANGUEKO_MOST_TRANSFER 1048576
 
 /* Bytes of a range in a list, and ranges of a list at most. A range is three numbers of 8 bytes each, least significant byte first: object, offset and
@@ -108,10 +114,13 @@ enum sangueko_refusal {
     /* Too few places for extents. */
     SANGUEKO_NO_EXTENT_PLACE = 16,
     /* A list of reads is not whole ranges, has over SANGUEKO_MOST_RANGES of them, or their lengths together exceed the output. Tried right behind 2. */
-    SANGUEKO_BAD_READS = 17
+    SANGUEKO_BAD_READS = 17,
+    /* A list of writes is not whole ranges, has over SANGUEKO_MOST_RANGES of them, a length exceeds SANGUEKO_MOST_TRANSFER, or the lengths do not add
+     * up to the bytes. Tried right behind 2. */
+    SANGUEKO_BAD_BATCH = 18
 };
 
-/* What a call answers: number 0 and a count, or the number of its refusal and count 0. */
+/* What a call answers: number 0 and a count, or the number of its refusal and count 0; of a batch, what stopped it, or 0, and the writes done. */
 struct sangueko_answer {
     uint32_t number;
     uint64_t count;
@@ -249,6 +258,29 @@ struct sangueko_answer sangueko_read_many(
     const uint8_t *retired, size_t retired_len,
     const uint8_t *list, size_t list_len,
     uint8_t *out, size_t out_len);
+
+/*
+ * Makes the writes of a list in one call, each as sangueko_write would: `list` has up to SANGUEKO_MOST_RANGES ranges of SANGUEKO_RANGE_BYTES each, of
+ * one file or of several, in any order, equal or overlapping ones too. `bytes` is cut into pieces that lie one after another in list order, each as
+ * long as its range, of at most SANGUEKO_MOST_TRANSFER bytes; together they are all of `bytes`. The writes are made in list order, and the later one
+ * stands over the earlier; each of them retires the blocks whose place it takes, also those that an earlier one of the batch took. All have the one
+ * time given.
+ * Number and count: as is said above, the writes done and what stopped it. An empty piece is a write, and counts. 0 and 0 for an empty list. Refused,
+ * in this order, by 1, 2, 18 (the list). Stopped by whatever a write would be refused by, 1 and 2 too, which are tried again before each of them: where
+ * something has changed the buffers so that two places have the same block, a write over the one leaves a store that 2 refuses. Where no two places
+ * have one, as in every store that these calls have made, the store is tested once for all of the writes.
+ */
+struct sangueko_answer sangueko_write_batch(
+    uint8_t *image, size_t image_len,
+    uint8_t *head, size_t head_len,
+    uint8_t *cards, size_t cards_len,
+    uint8_t *extents, size_t extents_len,
+    uint8_t *groups, size_t groups_len,
+    uint8_t *used, size_t used_len,
+    uint8_t *retired, size_t retired_len,
+    const uint8_t *list, size_t list_len,
+    const uint8_t *bytes, size_t bytes_len,
+    uint64_t seconds, uint64_t nanoseconds);
 
 #ifdef __cplusplus
 }

@@ -1,7 +1,7 @@
 /*
  * How much stack each call takes: it runs on a stack filled with one byte, and the lowest byte that changed is sought. The store has a file with a
- * block and a checksum, so that every test is made; write and grow keep old bytes and fill a unit. Exits with 1 where a call takes more than the header
- * says.
+ * block and a checksum, so that every test is made; write, batch and grow keep old bytes and fill a unit. Exits with 1 where a call takes more than the
+ * header says.
  */
 #define _XOPEN_SOURCE 700
 #define _DEFAULT_SOURCE
@@ -79,6 +79,21 @@ static struct sangueko_answer write_file(void)
     return sangueko_write(LENT, 7, SANGUEKO_BLOCK_BYTES - 10, bytes, sizeof bytes, 1, 2);
 }
 
+/* As many writes as a list has: the last one as above, the others of no byte. */
+static struct sangueko_answer write_batch(void)
+{
+    static uint8_t list[SANGUEKO_MOST_RANGES * SANGUEKO_RANGE_BYTES];
+    static const uint8_t bytes[70000] = { 3 };
+    for (uint8_t i = 0; i < SANGUEKO_MOST_RANGES; i++)
+        list[i * SANGUEKO_RANGE_BYTES] = 7;
+    uint8_t *last = list + (SANGUEKO_MOST_RANGES - 1) * SANGUEKO_RANGE_BYTES;
+    last[8] = (SANGUEKO_BLOCK_BYTES - 10) & 255;
+    last[9] = (SANGUEKO_BLOCK_BYTES - 10) >> 8;
+    for (int i = 0; i < 3; i++)
+        last[16 + i] = (uint8_t)(sizeof bytes >> 8 * i);
+    return sangueko_write_batch(LENT, list, sizeof list, bytes, sizeof bytes, 1, 2);
+}
+
 /* All of unit 0, and some of unit 1. */
 static struct sangueko_answer grow_file(void)
 {
@@ -150,7 +165,7 @@ int main(void)
         uint64_t count;
     } calls[] = { { "fresh", fresh, 0 }, { "enter", enter, 0 }, { "settle", settle, 1 }, { "fill", fill, 31 },
                   { "read", read_file, SANGUEKO_BLOCK_BYTES }, { "read_many", read_many, 1 }, { "write", write_file, 70000 },
-                  { "grow", grow_file, 0 } };
+                  { "write_batch", write_batch, SANGUEKO_MOST_RANGES }, { "grow", grow_file, 0 } };
     int failed = 0;
     printf("stack:");
     for (size_t i = 0; i < sizeof calls / sizeof calls[0]; i++) {

@@ -119,7 +119,7 @@ struct range {
     uint64_t object, offset, length;
 };
 
-/* A list of reads as bytes, in pages that cannot be written during the call. It has place for a range more than a list may have. */
+/* A list of ranges as bytes, in pages that cannot be written during the call. It has place for a range more than a list may have. */
 #define LIST ((SANGUEKO_MOST_RANGES + 1) * SANGUEKO_RANGE_BYTES)
 static uint8_t *list;
 
@@ -129,8 +129,7 @@ static void put_number(uint8_t *at, uint64_t number)
         at[i] = (uint8_t)(number >> 8 * i);
 }
 
-/* The reads of so many ranges, of whose list so many bytes are lent. */
-static struct sangueko_answer read_list(struct store *s, const struct range *ranges, size_t n, size_t list_len, size_t len)
+static void put_list(const struct range *ranges, size_t n)
 {
     protect(list, LIST, PROT_READ | PROT_WRITE);
     for (size_t i = 0; i < n; i++) {
@@ -140,6 +139,12 @@ static struct sangueko_answer read_list(struct store *s, const struct range *ran
         put_number(at + 16, ranges[i].length);
     }
     protect(list, LIST, PROT_READ);
+}
+
+/* The reads of so many ranges, of whose list so many bytes are lent. */
+static struct sangueko_answer read_list(struct store *s, const struct range *ranges, size_t n, size_t list_len, size_t len)
+{
+    put_list(ranges, n);
     memset(out, 0x77, sizeof out);
     return sangueko_read_many(LENT(s), list, list_len, out, len);
 }
@@ -149,13 +154,29 @@ static struct sangueko_answer read_many(struct store *s, const struct range *ran
     return read_list(s, ranges, n, n * SANGUEKO_RANGE_BYTES, sizeof out);
 }
 
-/* What is written, in pages that cannot be. */
-#define BYTES 40000
+/* What is written, in pages that cannot be. One byte more than a write takes. */
+#define BYTES (SANGUEKO_MOST_TRANSFER + 1)
 static uint8_t *bytes;
 
 static struct sangueko_answer write_at(struct store *s, uint64_t object, uint64_t offset, size_t len, uint64_t seconds, uint64_t nanoseconds)
 {
     return sangueko_write(LENT(s), object, offset, bytes, len, seconds, nanoseconds);
+}
+
+/* The writes of so many ranges, of whose list and bytes so many are lent. */
+static struct sangueko_answer write_list(struct store *s, const struct range *ranges, size_t n, size_t list_len, size_t len, uint64_t seconds)
+{
+    put_list(ranges, n);
+    return sangueko_write_batch(LENT(s), list, list_len, bytes, len, seconds, 0);
+}
+
+/* The same with the whole list and the bytes that it wants. */
+static struct sangueko_answer write_batch(struct store *s, const struct range *ranges, size_t n, uint64_t seconds)
+{
+    size_t len = 0;
+    for (size_t i = 0; i < n; i++)
+        len += ranges[i].length;
+    return write_list(s, ranges, n, n * SANGUEKO_RANGE_BYTES, len, seconds);
 }
 
 static struct sangueko_answer grow(struct store *s, uint64_t object, uint64_t size, uint64_t seconds, uint64_t nanoseconds)
@@ -172,12 +193,19 @@ static void accepted(const char *what, struct sangueko_answer answer, uint64_t c
     }
 }
 
-static void refused(const char *what, struct sangueko_answer answer, enum sangueko_refusal number)
+/* A batch that stops after so many writes. */
+static void stopped(const char *what, struct sangueko_answer answer, enum sangueko_refusal number, uint64_t count)
 {
-    if (answer.number != (uint32_t)number || answer.count != 0) {
-        printf("%s: number %u count %llu, not %d and 0\n", what, (unsigned)answer.number, (unsigned long long)answer.count, (int)number);
+    if (answer.number != (uint32_t)number || answer.count != count) {
+        printf("%s: number %u count %llu, not %d and %llu\n", what, (unsigned)answer.number, (unsigned long long)answer.count, (int)number,
+               (unsigned long long)count);
         differences++;
     }
+}
+
+static void refused(const char *what, struct sangueko_answer answer, enum sangueko_refusal number)
+{
+    stopped(what, answer, number, 0);
 }
 
 static void keep(struct store *s, uint8_t *kept[BUFFERS])
@@ -228,6 +256,28 @@ static void bad_lists(struct store *s)
     unread("many reads, a sum past 64 bits", read_many(s, wide, 2), SANGUEKO_BAD_READS);
 }
 
+/* Batches that are refused by 18 although there is no file 9, and those that are lists and stop before their first write. */
+static void bad_batches(struct store *s)
+{
+    const size_t whole = SANGUEKO_RANGE_BYTES;
+    static const struct range nothing[SANGUEKO_MOST_RANGES + 1]; /* of file 0, which there is not */
+    refused("batch, half a range", write_list(s, nothing, 2, whole + 1, 0, 0), SANGUEKO_BAD_BATCH);
+    refused("batch, one too many", write_batch(s, nothing, SANGUEKO_MOST_RANGES + 1, 0), SANGUEKO_BAD_BATCH);
+    stopped("batch, as many as may be", write_batch(s, nothing, SANGUEKO_MOST_RANGES, 0), SANGUEKO_NO_CARD, 0);
+
+    const struct range two[] = { { 9, 0, 15 }, { 9, 0, 2 } };
+    refused("batch, a byte too few", write_list(s, two, 2, 2 * whole, 16, 0), SANGUEKO_BAD_BATCH);
+    refused("batch, a byte too many", write_list(s, two, 2, 2 * whole, 18, 0), SANGUEKO_BAD_BATCH);
+    stopped("batch, just the bytes", write_list(s, two, 2, 2 * whole, 17, 0), SANGUEKO_NO_CARD, 0);
+    refused("no batch, but a byte", write_list(s, NULL, 0, 0, 1, 0), SANGUEKO_BAD_BATCH);
+    /* lengths whose sum is 2^64 + 2: in 64 bits it would be the bytes */
+    const struct range wide[] = { { 7, 0, 5 }, { 7, 0, UINT64_MAX - 2 } };
+    refused("batch, a sum past 64 bits", write_list(s, wide, 2, 2 * whole, 2, 0), SANGUEKO_BAD_BATCH);
+    const struct range more[] = { { 9, 0, SANGUEKO_MOST_TRANSFER + 1 } }, most[] = { { 9, 0, SANGUEKO_MOST_TRANSFER } };
+    refused("batch, a write too long", write_batch(s, more, 1, 0), SANGUEKO_BAD_BATCH);
+    stopped("batch, as long as may be", write_batch(s, most, 1, 0), SANGUEKO_NO_CARD, 0);
+}
+
 /* Refused calls on a store, which all of them leave as it was. */
 static void refusals(struct store *s, uint8_t *kept[BUFFERS])
 {
@@ -243,6 +293,7 @@ static void refusals(struct store *s, uint8_t *kept[BUFFERS])
         refused("fill, a buffer one byte short", sangueko_fill(LENT(s)), SANGUEKO_WRONG_LENGTH);
         refused("write, a buffer one byte short", write_at(s, 7, 0, 1, 0, 0), SANGUEKO_WRONG_LENGTH);
         refused("grow, a buffer one byte short", grow(s, 7, 1, 0, 0), SANGUEKO_WRONG_LENGTH);
+        refused("batch, a buffer one byte short", write_list(s, NULL, 0, 1, 0, 0), SANGUEKO_WRONG_LENGTH);
         unread("read, a buffer one byte short", read_at(s, 7, 0, sizeof out), SANGUEKO_WRONG_LENGTH);
         unread("many reads, a buffer one byte short", read_list(s, NULL, 0, 1, sizeof out), SANGUEKO_WRONG_LENGTH);
         s->len[i]++;
@@ -271,6 +322,13 @@ static void refusals(struct store *s, uint8_t *kept[BUFFERS])
     unread("read, no such file", read_at(s, 9, 0, sizeof out), SANGUEKO_NO_CARD);
 
     bad_lists(s);
+    bad_batches(s);
+    /* not refused, but nothing is done: the first write stops it, or there are only empty ones, which may have any time */
+    stopped("batch, past the limit", write_batch(s, (const struct range[]){ { 7, most, 1 }, { 7, 0, 1 } }, 2, 0), SANGUEKO_PAST_LIMIT, 0);
+    stopped("batch, a bad time", write_batch(s, (const struct range[]){ { 7, 0, 1 } }, 1, most + 1), SANGUEKO_BAD_TIME, 0);
+    stopped("batch, a bad time later", write_batch(s, (const struct range[]){ { 7, 0, 0 }, { 7, 0, 1 } }, 2, most + 1), SANGUEKO_BAD_TIME, 1);
+    accepted("batch of nothing", write_batch(s, (const struct range[]){ { 7, UINT64_MAX, 0 }, { 5, 0, 0 } }, 2, most + 1), 2);
+    accepted("no batch", write_batch(s, NULL, 0, most + 1), 0);
     open_all(s);
     unchanged("refused calls", s, kept);
 }
@@ -286,6 +344,8 @@ static void broken(struct store *s, uint8_t *kept[BUFFERS])
     refused("fill, a broken rule", sangueko_fill(LENT(s)), SANGUEKO_BROKEN_RULE);
     refused("write, a broken rule", write_at(s, 9, 0, 0, 0, 0), SANGUEKO_BROKEN_RULE);
     refused("grow, a broken rule", grow(s, 9, 0, 0, 0), SANGUEKO_BROKEN_RULE);
+    refused("batch, a broken rule", write_list(s, NULL, 0, 1, 0, 0), SANGUEKO_BROKEN_RULE);
+    refused("batch of one, a broken rule", write_batch(s, (const struct range[]){ { 7, 0, 1 } }, 1, 0), SANGUEKO_BROKEN_RULE);
     refused("read, a broken rule", read_at(s, 7, 0, sizeof out), SANGUEKO_BROKEN_RULE);
     unread("many reads, a broken rule", read_list(s, NULL, 0, 1, sizeof out), SANGUEKO_BROKEN_RULE);
     open_all(s);
@@ -545,6 +605,70 @@ static void changes(struct store *s, uint8_t *kept[BUFFERS])
     damaged("no checksum", s, kept, SANGUEKO_NO_CHECKSUM);
 }
 
+/* A fresh store again: batches that do all of their writes, that stop, and that find a block at two places. */
+static void batches(struct store *s, uint8_t *kept[BUFFERS])
+{
+    static uint8_t file[3 * SANGUEKO_BLOCK_BYTES]; /* zeros past its end */
+    open_all(s);
+    accepted("fresh again", fresh(s, sizeof uuid, 1), 0);
+    accepted("enter 7 again", enter(s, 7, 0, 0), 0);
+    accepted("enter 5 again", enter(s, 5, 0, 0), 0);
+    keep(s, kept);
+
+    /* two writes, of which the second retires two blocks of the first */
+    accepted("batch", write_batch(s, (const struct range[]){ { 7, 0, 9000 }, { 7, 5000, 10 } }, 2, 10), 2);
+    memcpy(file, bytes, 9000);
+    for (unsigned i = 0; i < 3; i++)
+        expect_block(kept, 1 + i, file, i);
+    memcpy(file + 5000, bytes + 9000, 10);
+    expect_card(kept, 9000, 3, 10, 0);
+    expect_extents(kept, (const struct run[]){ { 0, 1, 1 }, { 1, 4, 2 } }, 2);
+    expect_group(kept, file, 9000);
+    expect_block(kept, 4, file, 1);
+    expect_block(kept, 5, file, 2);
+    kept[USED][0] = 0x3f;
+    kept[RETIRED][0] = 0x0c;
+    unchanged("batch", s, kept);
+    reads_as("batch", s, file, 9000);
+
+    /* the first write is done, the second is of no file, and the third is not made */
+    stopped("batch that stops", write_batch(s, (const struct range[]){ { 7, 5000, 2 }, { 9, 0, 1 }, { 7, 0, 1 } }, 3, 11), SANGUEKO_NO_CARD, 1);
+    memcpy(file + 5000, bytes, 2);
+    expect_card(kept, 9000, 3, 11, 0);
+    expect_extents(kept, (const struct run[]){ { 0, 1, 1 }, { 1, 6, 2 } }, 2);
+    expect_group(kept, file, 9000);
+    expect_block(kept, 6, file, 1);
+    expect_block(kept, 7, file, 2);
+    kept[USED][0] = 0xff;
+    kept[RETIRED][0] = 0x3c;
+    unchanged("batch that stops", s, kept);
+    reads_as("batch that stops", s, file, 9000);
+
+    /* no block is free: an empty write counts all the same */
+    close_all(s);
+    stopped("batch, too few blocks", write_batch(s, (const struct range[]){ { 7, 0, 1 }, { 5, 0, 0 } }, 2, 12), SANGUEKO_NO_SPACE, 0);
+    stopped("batch, too few blocks later", write_batch(s, (const struct range[]){ { 5, 0, 0 }, { 7, 0, 1 } }, 2, 12), SANGUEKO_NO_SPACE, 1);
+    open_all(s);
+    unchanged("batch, too few blocks", s, kept);
+
+    /* block 1 at the start of file 5, too, which no rule forbids; a write over it in file 7 retires it, and that is forbidden */
+    accepted("settle behind batches", sangueko_settle(LENT(s)), 4);
+    static const uint8_t extent[SANGUEKO_EXTENT_BYTES] = { [7] = 5, [8] = 3, [17] = 1, [25] = 1 };
+    memmove(s->at[EXTENT] + sizeof extent, s->at[EXTENT], 2 * sizeof extent);
+    memcpy(s->at[EXTENT], extent, sizeof extent);
+    put_bits(s->at[HEAD], 184, 20, 3);
+    put_bits(s->at[CARD], 64, 63, SANGUEKO_BLOCK_BYTES);
+    put_bits(s->at[CARD], 127, 35, 1);
+    const struct range shared[] = { { 7, 0, 9000 }, { 5, 0, 1 } };
+    stopped("batch, a block at two places", write_batch(s, shared, 2, 13), SANGUEKO_BROKEN_RULE, 1);
+    EXPECT("batch, a block at two places", s->at[USED][0] == 0xdf && s->at[RETIRED][0] == 0xc2);
+    keep(s, kept);
+    close_all(s);
+    refused("batch behind it", write_batch(s, shared + 1, 1, 13), SANGUEKO_BROKEN_RULE);
+    open_all(s);
+    unchanged("batch behind it", s, kept);
+}
+
 /* The books may have no place: any pointer that is not null will do. */
 static void no_places(struct store *s)
 {
@@ -559,6 +683,8 @@ static void no_places(struct store *s)
     refused("enter, no places", enter(&bare, 7, 0, 0), SANGUEKO_NO_CARD_PLACE);
     refused("write, no places", write_at(&bare, 7, 0, 1, 0, 0), SANGUEKO_NO_CARD);
     refused("grow, no places", grow(&bare, 7, 1, 0, 0), SANGUEKO_NO_CARD);
+    accepted("no batch, no places", write_batch(&bare, NULL, 0, 0), 0);
+    stopped("batch, no places", write_batch(&bare, (const struct range[]){ { 7, 0, 1 } }, 1, 0), SANGUEKO_NO_CARD, 0);
     accepted("no reads, no places", read_many(&bare, NULL, 0), 0);
     unread("many reads, no places", read_many(&bare, (const struct range[]){ { 7, 0, 1 } }, 1), SANGUEKO_NO_CARD);
 }
@@ -628,12 +754,13 @@ int main(void)
     broken(&s, kept);
     accepted("fill at the end", sangueko_fill(LENT(&s)), 0);
     changes(&s, kept);
+    batches(&s, kept);
     no_places(&s);
 
     if (differences != 0) {
         printf("store: %d differences\n", differences);
         return 1;
     }
-    printf("store: the eight calls as asked; each of the seventeen refusals changes nothing\n");
+    printf("store: the nine calls as asked; each of the eighteen refusals changes nothing\n");
     return 0;
 }

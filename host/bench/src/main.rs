@@ -2,10 +2,12 @@
 //! over that of file.rs on a mounted store, with the processor's checksum
 //! instruction and with slicing by 8. The calls here test the whole store each
 //! time, which the Rust does not; what that costs is shown apart. Many reads in
-//! one call, which the Rust does not have, stand beside as many calls.
+//! one call and batches of writes, which the Rust does not have, stand beside as
+//! many calls.
 //!
-//! `bench [reads] [many] [writes] [extents]`: those parts, or all of them.
+//! `bench [reads] [many] [writes] [batches] [extents]`: those parts, or all of them.
 
+mod batches;
 mod checksum;
 mod many;
 #[path = "../../probe/src/bin/bench/measure.rs"]
@@ -54,6 +56,9 @@ fn main() {
         if part("writes") {
             writes::compared(&mut store, &mut mounted, many);
         }
+    }
+    if part("batches") {
+        batches::compared();
     }
     if part("extents") {
         by_extents();

@@ -20,7 +20,7 @@ use crate::measure::times;
 use crate::stores::{CHECKSUMS, OBJECT, lend, places};
 use crate::{MIB, ROUNDS, over};
 
-const TIME: Time = Time {
+pub const TIME: Time = Time {
     seconds: 1_700_000_001,
     nanoseconds: 5,
 };
@@ -141,13 +141,13 @@ impl Call<'_> {
 }
 
 /// Our store and theirs, as they were when the comparison began.
-struct First {
-    ours: Store,
-    theirs: Kept,
+pub struct First {
+    pub ours: Store,
+    pub theirs: Kept,
 }
 
 impl First {
-    fn of(store: &Store, mounted: &Mounted) -> Self {
+    pub fn of(store: &Store, mounted: &Mounted) -> Self {
         let mut ours = Store::default();
         ours.copy_records_from(store);
         Self {
@@ -283,7 +283,7 @@ pub fn small(store: &mut Store, mounted: &mut Mounted) -> (&'static str, (f64, f
     (FOUR_KIB.name, best)
 }
 
-fn bytes() -> Vec<u8> {
+pub fn bytes() -> Vec<u8> {
     let mut random = Rng::new(6);
     (0..MIB / 8)
         .flat_map(|_| random.next_u64().to_le_bytes())

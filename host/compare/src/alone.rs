@@ -8,6 +8,7 @@ use model::records::{CARD_BYTES, EXTENT_BYTES, GROUP_BYTES, put_bits};
 use model::{BLOCK_BYTES, Call, Card, Extent, Group, Store, Time, UNIT_BYTES, Volume};
 
 use crate::lists::read_many;
+use crate::writes::{batch_of, write_batch};
 
 pub struct Alone {
     /// The wrong model without this word; none where no such model can go on.
@@ -31,7 +32,7 @@ const D: u64 = 20;
 const E: u64 = 21;
 const LAST: u64 = u64::MAX - 1;
 
-/// The calls that meet every store: each of the eight, and those that change
+/// The calls that meet every store: each of the nine, and those that change
 /// nothing. On the sound store all are accepted.
 pub fn calls() -> Vec<Call> {
     let write = |bytes: &[u8]| Call::Write {
@@ -66,13 +67,18 @@ pub fn calls() -> Vec<Call> {
         read(0),
         read_many(&[(C, 65_500, 50), (A, 8_990, 20), (C, 0, 10)], 90),
         read_many(&[], 0),
+        write_batch(&[(C, 65_500, 50), (B, 100, 20), (C, 0, 0)]),
+        write_batch(&[]),
         fresh(16, 0),
     ]
 }
 
-/// A list that refusal 17 refuses, which is tried after 1 and 2.
-pub fn bad_reads() -> Call {
-    read_many(&[(C, 0, 11)], 10)
+/// Lists that refusals 17 and 18 refuse, which are tried after 1 and 2.
+pub fn bad_lists() -> [Call; 2] {
+    [
+        read_many(&[(C, 0, 11)], 10),
+        batch_of(&[(C, 0, 11)], 10, TIME),
+    ]
 }
 
 pub fn fresh(uuid: usize, reserved: u64) -> Call {

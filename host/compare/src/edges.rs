@@ -10,9 +10,11 @@ use model::{
 };
 
 use crate::alone::{TIME, fresh, seal};
+use crate::batch::batches;
 use crate::lists::read_many;
 use crate::many::many;
 use crate::smallest::smallest;
+use crate::writes::{batch_of, write_batch};
 
 /// One call on a store; many share one.
 pub struct Edge {
@@ -97,6 +99,7 @@ pub fn edges() -> Vec<Edge> {
     shared(&mut all);
     fills(&mut all);
     all.extend(many());
+    all.extend(batches());
     all
 }
 
@@ -311,6 +314,10 @@ fn nothing(all: &mut Vec<Edge>) {
             read_many(&[(7, 0, 0)], 0),
             read_many(&[(7, 0, 1)], 1),
             read_many(&[(7, 0, 1)], 0),
+            write_batch(&[]),
+            write_batch(&[(7, 0, 0)]),
+            write_batch(&[(7, 0, 1), (7, 4_095, 2)]),
+            batch_of(&[], 1, TIME),
             Call::Settle,
             Call::Fill,
         ] {
@@ -329,6 +336,8 @@ fn nothing(all: &mut Vec<Edge>) {
             read(7, 0, 9),
             read_many(&[(7, 0, 9)], 9),
             read_many(&[(7, 0, 9)], 8),
+            write_batch(&[(7, 1, 1)]),
+            batch_of(&[(7, 1, 1)], 2, TIME),
             Call::Fill,
         ] {
             all.push(edge("with one buffer empty", &other, call));
@@ -710,15 +719,18 @@ pub fn wide() -> (Store, Vec<(Volume, Call)>) {
             &[GROUP_BLOCKS - 1, 2 * GROUP_BLOCKS - 1],
             &[GROUP_BLOCKS, 2 * GROUP_BLOCKS + 1, 0],
         ] {
-            for length in [1, 8_192, 12_288, 20_000] {
-                let mut volume = start.clone();
-                volume.hint = hint;
-                volume.used.fill(true);
-                for &block in free {
-                    volume.used[block as usize] = false;
-                }
-                steps.push((volume, write(7, 0, length)));
+            let mut volume = start.clone();
+            volume.hint = hint;
+            volume.used.fill(true);
+            for &block in free {
+                volume.used[block as usize] = false;
             }
+            for length in [1, 8_192, 12_288, 20_000] {
+                steps.push((volume.clone(), write(7, 0, length)));
+            }
+            // Each write begins with the hint that the one before it left.
+            let writes = [(7, 0, 1), (7, 0, 0), (7, 70_000, 5_000), (7, 0, 1)];
+            steps.push((volume, write_batch(&writes)));
         }
         // Two units, and all of the store free.
         let mut volume = start.clone();
@@ -733,7 +745,9 @@ pub fn wide() -> (Store, Vec<(Volume, Call)>) {
 pub fn large() -> impl Iterator<Item = (&'static str, Store, Vec<Call>)> {
     let reads = || {
         let many = read_many(&[(7, 0, 5)], 5);
-        vec![Call::Fill, read(7, 0, 5), many, write(7, 0, 5), grow(7, 5)]
+        let batch = write_batch(&[(7, 0, 5)]);
+        let (write, grow) = (write(7, 0, 5), grow(7, 5));
+        vec![Call::Fill, read(7, 0, 5), many, write, batch, grow]
     };
     let every = move || [reads(), vec![Call::Settle, enter(7), fresh(16, 0)]].concat();
     let with_places = |name, cards, extents, groups| {

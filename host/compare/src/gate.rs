@@ -1,6 +1,7 @@
-//! A library held against the model: number, count, output buffer and all
-//! seven buffers of the store after every call, on every store, and no
-//! difference forgiven. A history goes on after any refusal.
+//! A library held against the model: number, count, whether the call was
+//! refused, output buffer and all seven buffers of the store after every call,
+//! on every store, and no difference forgiven. A history goes on after any
+//! refusal.
 
 use std::collections::BTreeMap;
 use std::fmt::Write;
@@ -10,7 +11,7 @@ use std::time::Duration;
 
 use model::{Answer, Call, Store, passes_refusals_1_and_2};
 
-use crate::alone::{alone, bad_reads, calls, sounds};
+use crate::alone::{alone, bad_lists, calls, sounds};
 use crate::broken::broken_stores;
 use crate::edges::{Edge, edges, large, pairs, wide};
 use crate::guard::{Guarded, Side};
@@ -137,6 +138,12 @@ impl<'a> Gate<'a> {
             Ok(told) if told.number != answer.number || told.count != answer.count => Err(format!(
                 "model {} count {}, library {} count {}",
                 answer.number, answer.count, told.number, told.count
+            )),
+            Ok(told) if told.refused != answer.refused => Err(format!(
+                "model {} count {}, which is {}a refused call; the library tells it otherwise",
+                answer.number,
+                answer.count,
+                if answer.refused { "" } else { "not " }
             )),
             Ok(told) if told.output != answer.output => Err("the output buffers part".into()),
             Ok(_) => Ok(()),
@@ -352,10 +359,11 @@ impl<'a> Gate<'a> {
             "grow",
             "read",
             "read_many",
+            "write_batch",
             "settle",
             "fill",
         ] {
-            let _ = write!(text, "  {name:9}");
+            let _ = write!(text, "  {name:11}");
             for ((_, number), count) in self.answers.iter().filter(|((n, _), _)| *n == name) {
                 let _ = write!(text, "  {number}: {count}");
             }
@@ -384,8 +392,8 @@ fn prepared(edges: Vec<Edge>) -> Vec<Single> {
     edges.into_iter().map(prepare).collect()
 }
 
-/// The sound stores and those that break a word, met by every call and by a
-/// list that refusal 17 refuses; and the broken stores that are recorded.
+/// The sound stores and those that break a word, met by every call and by lists
+/// that refusals 17 and 18 refuse; and the broken stores that are recorded.
 fn met_by_every_call() -> Vec<Edge> {
     let sound = sounds().map(|store| ("a sound store".into(), Arc::new(store)));
     let alone = alone()
@@ -400,7 +408,7 @@ fn met_by_every_call() -> Vec<Edge> {
                 store: Arc::clone(&store),
                 call,
             };
-            calls().into_iter().chain([bad_reads()]).map(met)
+            calls().into_iter().chain(bad_lists()).map(met)
         });
     let recorded = broken_stores().into_iter().map(|broken| Edge {
         name: broken.name.into(),

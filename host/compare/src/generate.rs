@@ -305,7 +305,7 @@ fn good_time(rng: &mut Rng) -> Time {
     }
 }
 
-fn time(rng: &mut Rng) -> Time {
+pub fn time(rng: &mut Rng) -> Time {
     let mut time = good_time(rng);
     match rng.below(60) {
         0 => time.seconds = rng.pick(&[MAX_SIZE + 1, u64::MAX]),

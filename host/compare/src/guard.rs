@@ -197,6 +197,22 @@ impl Library for Guarded<'_> {
                 };
                 self.between_pages(out, read)
             }
+            Request::WriteBatch {
+                list,
+                bytes,
+                seconds,
+                nanoseconds,
+            } => {
+                let list = Pages::read_only(list, self.side);
+                let bytes = Pages::read_only(bytes, self.side);
+                let request = Request::WriteBatch {
+                    list: list.bytes(),
+                    bytes: bytes.bytes(),
+                    seconds,
+                    nanoseconds,
+                };
+                self.library.lent(guarded, request)
+            }
             request => self.library.lent(guarded, request),
         };
         for (to, from) in buffers.into_iter().zip(&pages) {

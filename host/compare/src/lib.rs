@@ -1,9 +1,10 @@
 //! Runs calls through document 01's model and what is held against it: the
 //! published Rust (`run`), where listed differences are forgiven, and a library
-//! of the eight calls (`gate`), where none is; or through all three (`three`).
+//! of the nine calls (`gate`), where none is; or through all three (`three`).
 //! `plain` holds a library against demand 3's plain arrays.
 
 pub mod alone;
+pub mod batch;
 pub mod broken;
 pub mod damage;
 pub mod differences;
@@ -23,3 +24,4 @@ pub mod shrink;
 pub mod smallest;
 pub mod three;
 pub mod walk;
+pub mod writes;

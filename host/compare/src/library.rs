@@ -1,4 +1,4 @@
-//! What is held against the model: a library of the eight calls over lent
+//! What is held against the model: a library of the nine calls over lent
 //! buffers. The model itself, a wrong model and the linked archive can all
 //! stand behind it.
 
@@ -48,15 +48,23 @@ pub enum Request<'a> {
         list: &'a [u8],
         out: &'a mut [u8],
     },
+    WriteBatch {
+        list: &'a [u8],
+        bytes: &'a [u8],
+        seconds: u64,
+        nanoseconds: u64,
+    },
     Settle,
     Fill,
 }
 
-/// What a call returns.
+/// What a call returns, and whether the library calls that a refusal: of a batch
+/// the number alone does not tell.
 #[derive(Clone, Copy, Debug, PartialEq, Eq)]
 pub struct Told {
     pub number: u32,
     pub count: u64,
+    pub refused: bool,
 }
 
 pub trait Library {
@@ -78,6 +86,7 @@ pub trait Library {
         Answer {
             number: told.number,
             count: told.count,
+            refused: told.refused,
             output,
         }
     }
@@ -144,6 +153,16 @@ pub fn request<'a>(call: &'a Call, out: &'a mut [u8]) -> Request<'a> {
             out,
         },
         Call::ReadMany { ref list, .. } => Request::ReadMany { list, out },
+        Call::WriteBatch {
+            ref list,
+            ref bytes,
+            time,
+        } => Request::WriteBatch {
+            list,
+            bytes,
+            seconds: time.seconds,
+            nanoseconds: time.nanoseconds,
+        },
         Call::Settle => Request::Settle,
         Call::Fill => Request::Fill,
     }
@@ -170,6 +189,7 @@ impl<F: Fn(&mut Store, &Call) -> Answer> Library for Whole<F> {
         Told {
             number: answer.number,
             count: answer.count,
+            refused: answer.refused,
         }
     }
 
@@ -239,6 +259,16 @@ fn owned(request: Request<'_>) -> (Call, Option<&mut [u8]>) {
             };
             return (call, Some(out));
         }
+        Request::WriteBatch {
+            list,
+            bytes,
+            seconds,
+            nanoseconds,
+        } => Call::WriteBatch {
+            list: list.to_vec(),
+            bytes: bytes.to_vec(),
+            time: time(seconds, nanoseconds),
+        },
         Request::Settle => Call::Settle,
         Request::Fill => Call::Fill,
     };

@@ -174,7 +174,7 @@ impl Lists {
 
 /// The same triple, one that overlaps it or lies beside it, or the same place
 /// of another file.
-fn near(rng: &mut Rng, volume: &Volume, triple: Triple) -> Triple {
+pub fn near(rng: &mut Rng, volume: &Volume, triple: Triple) -> Triple {
     match rng.below(4) {
         0 => triple,
         1 if !volume.cards.is_empty() => Triple {

@@ -9,6 +9,7 @@ use crate::generate::Profile;
 use crate::library::Library;
 use crate::lists::{different_units, lengths, single_read};
 use crate::walk::Walk;
+use crate::writes::single_writes;
 
 /// An object's bytes: zeros up to its size, which may be 2^63 - 1, under the
 /// writes in their order.
@@ -44,7 +45,9 @@ impl Plain {
     }
 }
 
-fn step(files: &mut BTreeMap<u64, Plain>, call: &Call) {
+/// A call that was not refused. Of a batch the plain arrays are told how many
+/// writes were done, and take the step of each of those.
+fn step(files: &mut BTreeMap<u64, Plain>, call: &Call, done: u64) {
     match call {
         Call::Fresh { .. } => files.clear(),
         Call::Enter { object, .. } => {
@@ -68,6 +71,11 @@ fn step(files: &mut BTreeMap<u64, Plain>, call: &Call) {
                 .get_mut(object)
                 .expect("a grow that was accepted")
                 .size = *size;
+        }
+        Call::WriteBatch { .. } => {
+            for write in single_writes(call).iter().take(done as usize) {
+                step(files, write, 0);
+            }
         }
         Call::Read { .. } | Call::ReadMany { .. } | Call::Settle | Call::Fill => {}
     }
@@ -102,7 +110,8 @@ fn blocks_add_up(store: &Store, reserved: u64) -> bool {
 }
 
 /// The calls of a history through the library: every accepted read, and many
-/// in one call, have the plain array's count and bytes, every block is in one
+/// in one call, have the plain array's count and bytes, a batch has number 0
+/// where all of its writes were done and there alone, every block is in one
 /// place, every card's count is right, and no number comes that demand 3 shuts
 /// out. At the end every byte that was written is read again, by single reads
 /// and by many in one call. Calls that the library does not have are the
@@ -129,14 +138,18 @@ pub fn demand_3(library: &dyn Library, seed: u64, number: u64) -> u64 {
     // Demand 3 speaks of stores reached from fresh by calls alone.
     while let Some(call) = walk.call() {
         let answer = ask(&mut walk.store, &call);
-        if answer.number != 0 {
+        if answer.refused {
             continue;
         }
-        step(&mut files, &call);
+        step(&mut files, &call, answer.count);
         if let Call::Fresh { reserved, .. } = call {
             reserved_by_fresh = reserved;
         }
         let what = format!("seed {seed} history {number} step {}", walk.step);
+        if let Call::WriteBatch { list, .. } = &call {
+            let all = answer.count == Triple::all(list).count() as u64;
+            assert_eq!(answer.number == 0, all, "{what}: 0 if all were done");
+        }
         read_is_plain(&files, &call, &answer, &what);
         assert!(blocks_add_up(&walk.store, reserved_by_fresh), "{what}");
     }

@@ -222,6 +222,14 @@ impl Writer {
                 self.packed(list);
                 self.u32(*length);
             }
+            Call::WriteBatch { list, bytes, time } => {
+                self.u8(8);
+                for lent in [list, bytes] {
+                    self.u32(lent.len());
+                    self.packed(lent);
+                }
+                self.time(*time);
+            }
         }
         self.u32(case.answer.number as usize);
         self.u64(case.answer.count);
@@ -357,6 +365,16 @@ impl<'a> Reader<'a> {
                     length: self.u32(),
                 }
             }
+            8 => {
+                let length = self.u32();
+                let list = self.packed(length);
+                let length = self.u32();
+                Call::WriteBatch {
+                    list,
+                    bytes: self.packed(length),
+                    time: self.time(),
+                }
+            }
             kind => panic!("a call of kind {kind}"),
         }
     }
@@ -391,15 +409,17 @@ impl Iterator for Reader<'_> {
                     let mut after = before.clone();
                     self.change(&mut after);
                     self.store = after.clone();
+                    let answer = Answer {
+                        number,
+                        count,
+                        refused: call.refused_by(number, count),
+                        output,
+                    };
                     return Some(Case {
                         before,
                         call,
                         source,
-                        answer: Answer {
-                            number,
-                            count,
-                            output,
-                        },
+                        answer,
                         after,
                     });
                 }

@@ -3,13 +3,14 @@
 use std::collections::BTreeMap;
 use std::fmt::Write;
 
-use model::{Answer, BLOCK_BYTES, Call, Store, Volume};
+use model::{Answer, BLOCK_BYTES, Call, Store, Volume, passes_refusals_1_and_2};
 use oracle::{OracleAnswer, Outcome};
 
 use crate::differences::Difference;
 use crate::generate::Profile;
 use crate::lists::by_single_reads;
 use crate::walk::{Event, Walk};
+use crate::writes::{Compared, by_single_writes};
 
 /// The side that is held against the model: the oracle, or a library that
 /// answers in its stead.
@@ -30,6 +31,8 @@ pub struct Tally {
     pub compared: u64,
     /// Many reads in one call, held against single reads.
     pub many: u64,
+    /// Batches of writes, held against single writes.
+    pub batches: u64,
     /// Compared calls by name and the document's number.
     pub answers: BTreeMap<(&'static str, u32), u64>,
     pub listed: BTreeMap<Difference, u64>,
@@ -65,13 +68,12 @@ pub fn same_images(document: &Store, rust: &Store, used_before: &[u8]) -> bool {
     })
 }
 
-fn verdict(
-    call: &Call,
-    store: &Store,
-    document: &Answer,
-    rust: &OracleAnswer,
-    same_store: bool,
-) -> Verdict {
+fn verdict(store: &Store, compared: &Compared, same_store: bool) -> Verdict {
+    let Compared {
+        call,
+        answer: document,
+        told: rust,
+    } = compared;
     let same_answer = rust.outcome.number() == Some(document.number)
         && rust.outcome.count() == document.count
         && rust.output == document.output;
@@ -114,31 +116,53 @@ pub struct Judged {
 }
 
 /// What the other side makes of a call that the document answers so: of many
-/// reads in one call its single reads in list order. `None` where the document
-/// alone has an answer.
-fn ask(other: Other<'_>, store: &mut Store, call: &Call, answer: &Answer) -> Option<OracleAnswer> {
-    match call {
+/// reads in one call its single reads in list order, of a batch its single
+/// writes. `None` where the document alone has an answer.
+fn ask(other: Other<'_>, store: &mut Store, call: &Call, answer: &Answer) -> Option<Compared> {
+    let told = match call {
         Call::ReadMany { .. } if matches!(answer.number, 1 | 2 | 17) => None,
         Call::ReadMany { list, length } => {
             Some(by_single_reads(list, *length, |read| other(store, read)))
         }
+        Call::WriteBatch { .. } => {
+            let by_write = |write: &Call| past_refusals_1_and_2(other, store, write);
+            return (!answer.refused).then(|| by_single_writes(call, answer, by_write));
+        }
         call => call.compared().then(|| other(store, call)),
+    };
+    told.map(|told| Compared {
+        call: call.clone(),
+        answer: answer.clone(),
+        told,
+    })
+}
+
+/// The other side has no refusals 1 and 2, and is not asked on a store that they
+/// meet: no answer then, which is none that the document gives.
+fn past_refusals_1_and_2(other: Other<'_>, store: &mut Store, call: &Call) -> OracleAnswer {
+    if passes_refusals_1_and_2(store) {
+        return other(store, call);
+    }
+    OracleAnswer {
+        outcome: Outcome::NoCounterpart,
+        output: call.blank_output(),
     }
 }
 
 pub fn judge(store: &Store, call: &Call, other: Other<'_>) -> Judged {
     let (mut after, mut right) = (store.clone(), store.clone());
     let answer = model::run(&mut after, call);
-    let told = ask(other, &mut right, call, &answer);
-    let verdict = told.as_ref().map_or(Verdict::Agree, |told| {
-        verdict(call, &after, &answer, told, after == right)
+    let compared = ask(other, &mut right, call, &answer);
+    let verdict = compared.as_ref().map_or(Verdict::Agree, |compared| {
+        verdict(&after, compared, after == right)
     });
+    let none = || OracleAnswer {
+        outcome: Outcome::NoCounterpart,
+        output: call.blank_output(),
+    };
     Judged {
         verdict,
-        told: told.unwrap_or_else(|| OracleAnswer {
-            outcome: Outcome::NoCounterpart,
-            output: call.blank_output(),
-        }),
+        told: compared.map_or_else(none, |compared| compared.told),
         answer,
         after,
     }
@@ -154,7 +178,7 @@ pub fn compare_history(
     watched_history(seed, number, &|_, _| {}, other, tally)
 }
 
-/// The same, where `watch` is shown each call, of all eight, with the store
+/// The same, where `watch` is shown each call, of all nine, with the store
 /// before it.
 pub fn watched_history(
     seed: u64,
@@ -184,19 +208,19 @@ pub fn watched_history(
         let answer = model::run(&mut walk.store, &call);
         // A place that a damaged store shares may be kept and retired at
         // once; every later call is then refused by 2, which the Rust does
-        // not have. Many reads, which stand beside the history, do not end it.
-        let many = matches!(call, Call::ReadMany { .. });
-        if answer.number == 2 && !many {
+        // not have. Lists, which stand beside the history, do not end it.
+        let listed = matches!(call, Call::ReadMany { .. } | Call::WriteBatch { .. });
+        if answer.number == 2 && !listed {
             break;
         }
-        let Some(told) = ask(other, &mut rust, &call, &answer) else {
+        let Some(compared) = ask(other, &mut rust, &call, &answer) else {
             rust.copy_records_from(&walk.store);
             continue;
         };
-        if many {
-            tally.many += 1;
-        } else {
-            tally.compared += 1;
+        match call {
+            Call::ReadMany { .. } => tally.many += 1,
+            Call::WriteBatch { .. } => tally.batches += 1,
+            _ => tally.compared += 1,
         }
         *tally
             .answers
@@ -205,7 +229,7 @@ pub fn watched_history(
         let document = &walk.store;
         let same_store =
             document.records_equal(&rust) && same_images(document, &rust, &used_before);
-        match verdict(&call, document, &answer, &told, same_store) {
+        match verdict(document, &compared, same_store) {
             Verdict::Agree => {}
             Verdict::Listed(difference) => {
                 *tally.listed.entry(difference).or_default() += 1;
@@ -261,13 +285,13 @@ impl Tally {
         let mut text = String::new();
         let _ = writeln!(
             text,
-            "{} histories, {} calls, {} of them compared, {} of many reads by single reads",
-            self.histories, self.calls, self.compared, self.many
+            "{} histories, {} calls, {} of them compared, {} of many reads by single reads, {} batches by single writes",
+            self.histories, self.calls, self.compared, self.many, self.batches
         );
         let _ = writeln!(text, "profiles: {:?}", self.profiles);
         let _ = writeln!(text, "answers by the document's number:");
-        for name in ["write", "grow", "read", "read_many"] {
-            let mut line = format!("  {name:9}");
+        for name in ["write", "grow", "read", "read_many", "write_batch"] {
+            let mut line = format!("  {name:11}");
             for ((_, number), count) in self.answers.iter().filter(|((n, _), _)| *n == name) {
                 let _ = write!(line, "  {number}: {count}");
             }

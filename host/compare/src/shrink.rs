@@ -96,7 +96,23 @@ fn simpler_calls(call: &Call) -> Vec<Call> {
                 });
             }
         }
-        Call::ReadMany { list, length } => simpler = simpler_lists(list, *length),
+        Call::ReadMany { list, length } => {
+            let lists = simpler_lists(list, *length).into_iter();
+            simpler.extend(lists.map(|(list, length)| Call::ReadMany { list, length }));
+        }
+        Call::WriteBatch { list, bytes, time } => {
+            let batch = |list: Vec<u8>, bytes: Vec<u8>| Call::WriteBatch {
+                list,
+                bytes,
+                time: *time,
+            };
+            // Which bytes a write has decides little, so that the first serve.
+            let lists = simpler_lists(list, bytes.len()).into_iter();
+            simpler.extend(lists.map(|(list, length)| batch(list, bytes[..length].to_vec())));
+            if bytes.iter().any(|&byte| byte != 1) {
+                simpler.push(batch(list.clone(), vec![1; bytes.len()]));
+            }
+        }
         _ => {}
     }
     simpler
@@ -111,29 +127,28 @@ fn shorter(length: u64) -> impl Iterator<Item = u64> {
     halves.into_iter().chain(less).filter(within)
 }
 
-/// Fewer triples, then shorter reads and reads from the start on. What the
-/// output has more than the lengths, or less, stays as it is, or goes.
-fn simpler_lists(list: &[u8], length: usize) -> Vec<Call> {
+/// Lists of fewer triples, then of shorter ones and from the start on, each with
+/// the length of the output or of the bytes. What that has more than the
+/// lengths, or less, stays as it is, or goes.
+fn simpler_lists(list: &[u8], length: usize) -> Vec<(Vec<u8>, usize)> {
     let triples: Vec<Triple> = Triple::all(list).collect();
     let rest = &list[triples.len() * TRIPLE_BYTES..];
     let spare = length as i128 - lengths(&triples) as i128;
-    let call = |triples: &[Triple], rest: &[u8], spare: i128| {
+    let list = |triples: &[Triple], rest: &[u8], spare: i128| {
         let wanted = lengths(triples) as i128 + spare;
-        Call::ReadMany {
-            list: [&Triple::list(triples), rest].concat(),
-            length: wanted.clamp(0, length as i128) as usize,
-        }
+        let length = wanted.clamp(0, length as i128) as usize;
+        ([&Triple::list(triples), rest].concat(), length)
     };
     let fewer = fewer_triples(&triples).into_iter();
-    let mut simpler: Vec<Call> = fewer.map(|fewer| call(&fewer, rest, spare)).collect();
+    let mut simpler: Vec<_> = fewer.map(|fewer| list(&fewer, rest, spare)).collect();
     if !rest.is_empty() {
-        simpler.push(call(&triples, &[], spare));
+        simpler.push(list(&triples, &[], spare));
     }
     if spare > 0 {
-        simpler.push(call(&triples, rest, 0));
+        simpler.push(list(&triples, rest, 0));
     }
     let others = simpler_triples(&triples).into_iter();
-    simpler.extend(others.map(|others| call(&others, rest, spare)));
+    simpler.extend(others.map(|others| list(&others, rest, spare)));
     simpler
 }
 
@@ -327,15 +342,23 @@ fn describe_call(call: &Call) -> String {
             "call: write object {object} offset {offset}, {} bytes, {time:?}\n",
             bytes.len()
         ),
-        Call::ReadMany { list, length } => {
-            let triples: Vec<(u64, u64, u64)> = Triple::all(list)
-                .map(|triple| (triple.object, triple.offset, triple.length))
-                .collect();
-            let rest = list.len() % TRIPLE_BYTES;
-            format!(
-                "call: read_many (object, offset, length) {triples:?} and {rest} bytes, into {length} bytes\n"
-            )
-        }
+        Call::ReadMany { list, length } => format!(
+            "call: read_many {}, into {length} bytes\n",
+            describe_list(list)
+        ),
+        Call::WriteBatch { list, bytes, time } => format!(
+            "call: write_batch {}, of {} bytes, {time:?}\n",
+            describe_list(list),
+            bytes.len()
+        ),
         call => format!("call: {call:?}\n"),
     }
+}
+
+fn describe_list(list: &[u8]) -> String {
+    let triples: Vec<(u64, u64, u64)> = Triple::all(list)
+        .map(|triple| (triple.object, triple.offset, triple.length))
+        .collect();
+    let rest = list.len() % TRIPLE_BYTES;
+    format!("(object, offset, length) {triples:?} and {rest} bytes")
 }

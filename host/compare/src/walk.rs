@@ -8,6 +8,7 @@ use crate::damage::{damage, split_all};
 use crate::generate::{History, Step, crowd};
 use crate::lists::Lists;
 use crate::rough::roughen;
+use crate::writes::Batches;
 
 /// A history and the store that it runs on.
 pub struct Walk {
@@ -15,7 +16,7 @@ pub struct Walk {
     pub store: Store,
     /// Events and calls so far.
     pub step: usize,
-    lists: Option<Lists>,
+    lists: Option<(Lists, Batches)>,
     rough: Option<Rough>,
 }
 
@@ -90,7 +91,8 @@ fn aimed<'a>(rough: &'a mut Option<Rough>, store: &'a Store) -> (&'a Store, Opti
 }
 
 impl Walk {
-    /// The history alone, as it is recorded: without many reads in one call.
+    /// The history alone, as it is recorded: without many reads in one call and
+    /// batches of writes.
     pub fn new(history: History) -> Self {
         Self {
             store: history.blank(),
@@ -102,10 +104,11 @@ impl Walk {
     }
 
     /// History `number` of `seed` with many reads in one call in between, which
-    /// leave its own calls as they are.
+    /// leave its own calls as they are; and in some histories with batches of
+    /// writes, after which its calls are others.
     pub fn with_lists(seed: u64, number: u64) -> Self {
         let mut walk = Self::new(History::new(seed, number));
-        walk.lists = Some(Lists::new(seed, number));
+        walk.lists = Some((Lists::new(seed, number), Batches::new(seed, number)));
         walk
     }
 
@@ -127,7 +130,7 @@ impl Walk {
             self.step += 1;
             return Some(Event::Changed(change));
         }
-        if let Some(call) = self.short_call().or_else(|| self.many_reads()) {
+        if let Some(call) = self.short_call().or_else(|| self.listed()) {
             self.step += 1;
             return Some(Event::Call(call));
         }
@@ -162,7 +165,7 @@ impl Walk {
     pub fn call(&mut self) -> Option<Call> {
         loop {
             self.step += 1;
-            if let Some(call) = self.many_reads() {
+            if let Some(call) = self.listed() {
                 return Some(call);
             }
             if let Step::Call(call) = self.history.next(&self.store)? {
@@ -235,11 +238,12 @@ impl Walk {
         })
     }
 
-    /// Many reads in one call, now and then, where the walk has them.
-    fn many_reads(&mut self) -> Option<Call> {
-        let lists = self.lists.as_mut()?;
+    /// Many reads or a batch of writes, now and then, where the walk has them.
+    fn listed(&mut self) -> Option<Call> {
+        let (lists, batches) = self.lists.as_mut()?;
         let (store, left) = aimed(&mut self.rough, &self.store);
-        let call = lists.next(&self.history, store)?;
+        let reads = lists.next(&self.history, store);
+        let call = reads.or_else(|| batches.next(&self.history, store))?;
         if let Some(left) = left {
             *left -= 1;
         }

@@ -99,6 +99,15 @@ fn what_a_library_does_wrong_is_told() {
         ("used map that does not fit", 1),
         ("a piece laid behind the bytes handed out before it", 20),
         ("a unit counted again where another comes between", 20),
+        ("2 tried once for a batch", 8),
+        (
+            "a block that an earlier write of the batch gave up handed out",
+            24,
+        ),
+        (
+            "a batch that stops before its first write told as refused",
+            24,
+        ),
         ("image of no block", 0),
     ] {
         let wrong = library(Wrong::named(name).expect("listed"));
@@ -161,8 +170,11 @@ fn fault(broken: &Alone, wrong: Option<Wrong>, call: &Call) -> Option<String> {
     // Past the device there is no block to look at: a model that gets so far
     // panics, and gives no number.
     let mut store = broken.store.clone();
-    match panic::catch_unwind(move || wrong.map(|wrong| wrong.run(&mut store, call).number)) {
-        Ok(Some(1 | 2)) => told("refused by 1 or 2 without the word, too"),
+    let answered = panic::catch_unwind(move || wrong.map(|wrong| wrong.run(&mut store, call)));
+    match answered {
+        Ok(Some(answer)) if answer.refused && matches!(answer.number, 1 | 2) => {
+            told("refused by 1 or 2 without the word, too")
+        }
         _ => None,
     }
 }
@@ -174,8 +186,8 @@ fn a_library_without_some_calls_is_judged_on_the_others() {
     struct Four(Wrong);
     impl Library for Four {
         fn supports(&self, call: &Call) -> bool {
-            let reads = matches!(call, Call::ReadMany { .. });
-            !call.compared() && !reads
+            let listed = matches!(call, Call::ReadMany { .. } | Call::WriteBatch { .. });
+            !call.compared() && !listed
         }
         fn lent(&self, _: Lent<'_>, _: Request<'_>) -> Told {
             unreachable!("it is lent whole stores")
@@ -192,7 +204,7 @@ fn a_library_without_some_calls_is_judged_on_the_others() {
     assert!(
         gate.answers
             .keys()
-            .all(|(name, _)| !["write", "grow", "read", "read_many"].contains(name))
+            .all(|(name, _)| ["fresh", "enter", "settle", "fill"].contains(name))
     );
     for name in [
         "settle keeps the used bits",

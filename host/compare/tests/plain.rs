@@ -31,6 +31,30 @@ fn many_reads_that_are_wrong_are_found() {
     }
 }
 
+/// And what is wrong with a batch: what the plain arrays are told of it are the
+/// writes done.
+#[test]
+fn batches_that_are_wrong_are_found() {
+    for name in [
+        "a batch counts bytes",
+        "a batch counts the write that stopped it",
+        "a batch that stops counts nothing",
+        "a stop undoes the writes before it",
+        "a refused write of a batch left out",
+        "the writes behind a stop made",
+        "the writes of a batch from the last on",
+        "each write of a batch has the first bytes",
+        "each write of a batch made on the store as lent",
+        "an empty write of a batch not counted",
+        "the count of blocks carried from one write of a batch to the next",
+    ] {
+        let wrong = Wrong::named(name).expect("listed");
+        let library = move |store: &mut Store, call: &Call| wrong.run(store, call);
+        let found = |number| catch_unwind(|| demand_3(&Whole(library), 11, number)).is_err();
+        assert!((0..200).any(found), "{name}");
+    }
+}
+
 #[test]
 fn the_layout_store_prints_as_document_01_says() {
     let mut store = Store::blank(8, 1, 8, 1);

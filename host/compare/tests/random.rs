@@ -102,6 +102,31 @@ fn many_reads_are_single_reads() {
     }
 }
 
+/// Batches at the edges of their rules, against the single writes of the model,
+/// of the Rust where it is there, and of models whose writes are wrong.
+#[test]
+fn batches_are_single_writes() {
+    let parting = |other: &dyn Fn(&mut Store, &Call) -> OracleAnswer| {
+        let mut edges = edges();
+        edges.retain(|edge| matches!(edge.call, Call::WriteBatch { .. }));
+        assert!(edges.len() > 400, "{} calls", edges.len());
+        edges.retain(|edge| parts(&judge(&edge.store, &edge.call, other)));
+        edges.len()
+    };
+    assert_eq!(parting(&in_its_place(Wrong::NONE)), 0);
+    for name in [
+        "a superseded block freed at once",
+        "13 counts retired blocks as free",
+        "a write up to 2^63 - 1 refused",
+    ] {
+        let wrong = Wrong::named(name).expect("listed");
+        assert!(parting(&in_its_place(wrong)) > 0, "{name}");
+    }
+    if !oracle::skipped("batches by single writes of the Rust") {
+        assert_eq!(parting(&oracle::run), 0);
+    }
+}
+
 /// Document 01's hollow builds and slips. A fill is not compared with the
 /// Rust.
 #[test]

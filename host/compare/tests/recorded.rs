@@ -12,6 +12,7 @@ use compare::recorded::{Case, Reader, Source, Writer};
 use compare::run::{Verdict, judge};
 use compare::sample;
 use compare::shrink::describe;
+use compare::writes::{TIME, batch_of, write_batch};
 
 fn directory() -> PathBuf {
     PathBuf::from(env!("CARGO_MANIFEST_DIR")).join("../recorded")
@@ -92,27 +93,47 @@ fn the_sample_is_small_and_shows_every_number() {
     }
 }
 
-/// None are recorded, since the Rust does not have the call; a failing one is
+/// None are recorded, since the Rust does not have the calls; a failing one is
 /// written, to be run again.
 #[test]
-fn many_reads_are_written_and_read_again() {
+fn lists_are_written_and_read_again() {
     let store = sound_store();
     let cases = [
         read_many(&[(7, 8_990, 20), (9, 0, 10)], 40),
         read_many(&[(7, 0, 10), (8, 0, 10)], 20),
         read_many(&[(7, 0, u64::MAX)], 0),
         read_many(&[], 3),
+        write_batch(&[(7, 8_990, 20), (9, 0, 10)]),
+        write_batch(&[(7, 0, 10), (8, 0, 10)]),
+        write_batch(&[(8, 0, 10)]),
+        batch_of(&[(7, 0, 10)], 9, TIME),
+        write_batch(&[]),
     ]
-    .map(|call| Case {
-        before: store.clone(),
-        source: Source::Document,
-        answer: model::run(&mut store.clone(), &call),
-        after: store.clone(),
-        call,
+    .map(|call| {
+        let mut after = store.clone();
+        Case {
+            before: store.clone(),
+            source: Source::Document,
+            answer: model::run(&mut after, &call),
+            after,
+            call,
+        }
     });
     assert_eq!(
-        cases.each_ref().map(|case| case.answer.number),
-        [0, 3, 17, 0]
+        cases
+            .each_ref()
+            .map(|case| (case.answer.number, case.answer.refused)),
+        [
+            (0, false),
+            (3, true),
+            (17, true),
+            (0, false),
+            (0, false),
+            (3, false),
+            (3, false),
+            (18, true),
+            (0, false)
+        ]
     );
     let mut writer = Writer::default();
     for case in &cases {

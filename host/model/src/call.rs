@@ -44,6 +44,12 @@ pub enum Call {
         list: Vec<u8>,
         length: usize,
     },
+    /// The writes of a list, of which each has its part of `bytes`.
+    WriteBatch {
+        list: Vec<u8>,
+        bytes: Vec<u8>,
+        time: Time,
+    },
     Settle,
     Fill,
 }
@@ -57,6 +63,7 @@ impl Call {
             Self::Grow { .. } => "grow",
             Self::Read { .. } => "read",
             Self::ReadMany { .. } => "read_many",
+            Self::WriteBatch { .. } => "write_batch",
             Self::Settle => "settle",
             Self::Fill => "fill",
         }
@@ -79,13 +86,26 @@ impl Call {
             _ => Vec::new(),
         }
     }
+
+    /// Whether an answer of this number and count is that of a refused call. A
+    /// batch that stops has the number of a refusal, and is none: 1, 2 and 18
+    /// alone refuse it, before its first write.
+    pub fn refused_by(&self, number: u32, count: u64) -> bool {
+        match self {
+            Self::WriteBatch { .. } => matches!(number, 1 | 2 | 18) && count == 0,
+            _ => number != 0,
+        }
+    }
 }
 
-/// Number 0 and a count, or a refusal's number and count 0; and the output
-/// buffer as the call left it.
+/// Number 0 and a count, or a refusal's number and count 0; of a batch that
+/// stops, the number that stopped it and how many writes were done. And the
+/// output buffer as the call left it.
 #[derive(Clone, Debug, PartialEq, Eq)]
 pub struct Answer {
     pub number: u32,
     pub count: u64,
+    /// Whether the call was refused, and so did nothing.
+    pub refused: bool,
     pub output: Vec<u8>,
 }

@@ -212,8 +212,8 @@ fn le64(bytes: &[u8]) -> u64 {
     u64::from_le_bytes(bytes.try_into().expect("8 bytes"))
 }
 
-/// One read of a list: three "64-bit numbers (here and later 8 bytes each,
-/// little-endian)".
+/// One read or write of a list: three "64-bit numbers (here and later 8 bytes
+/// each, little-endian)".
 #[derive(Clone, Copy, Debug, PartialEq, Eq, PartialOrd, Ord)]
 pub struct Triple {
     pub object: u64,

@@ -19,16 +19,20 @@ use crate::{
 /// A refusal's number.
 type Refusal = u32;
 
+/// Number and count of a call that was not refused. The number is 0, but for a
+/// batch that stops.
+type Told = (u32, u64);
+
 /// Run one call. A refused call changes no lent byte.
 pub fn run(store: &mut Store, call: &Call) -> Answer {
     let mut output = call.blank_output();
-    let (number, count) = match answer(store, call, &mut output) {
-        Ok(count) => (0, count),
-        Err(number) => (number, 0),
-    };
+    let told = answer(store, call, &mut output);
+    let refused = told.is_err();
+    let (number, count) = told.unwrap_or_else(|number| (number, 0));
     Answer {
         number,
         count,
+        refused,
         output,
     }
 }
@@ -38,16 +42,16 @@ pub fn passes_refusals_1_and_2(store: &Store) -> bool {
     lengths_are_right(store, None) && books_keep_the_rules(store) && maps_keep_the_rules(store)
 }
 
-fn answer(store: &mut Store, call: &Call, output: &mut [u8]) -> Result<u64, Refusal> {
+fn answer(store: &mut Store, call: &Call, output: &mut [u8]) -> Result<Told, Refusal> {
     if let Call::Fresh { uuid, reserved } = call {
         refuse_if(!lengths_are_right(store, Some((uuid, *reserved))), 1)?;
         fresh(store, uuid, *reserved);
-        return Ok(0);
+        return Ok((0, 0));
     }
     refuse_if(!lengths_are_right(store, None), 1)?;
     refuse_if(!books_keep_the_rules(store), 2)?;
     refuse_if(!maps_keep_the_rules(store), 2)?;
-    match call {
+    let count = match call {
         Call::Fresh { .. } => unreachable!("answered above"),
         Call::Enter { object, time } => enter(store, *object, *time),
         Call::Write {
@@ -59,9 +63,11 @@ fn answer(store: &mut Store, call: &Call, output: &mut [u8]) -> Result<u64, Refu
         Call::Grow { object, size, time } => grow(store, *object, *size, *time),
         Call::Read { object, offset, .. } => read(store, *object, *offset, output),
         Call::ReadMany { list, .. } => read_many(store, list, output),
+        Call::WriteBatch { list, bytes, time } => return write_batch(store, list, bytes, *time),
         Call::Settle => Ok(settle(store)),
         Call::Fill => Ok(fill(store)),
-    }
+    };
+    Ok((0, count?))
 }
 
 fn refuse_if(refused: bool, number: Refusal) -> Result<(), Refusal> {
@@ -354,13 +360,16 @@ fn read_many(store: &Store, list: &[u8], output: &mut [u8]) -> Result<u64, Refus
     Ok(touched.len() as u64)
 }
 
+/// Of refusals 17 and 18: "the list is not whole triples, has more than 64".
+fn list_is_bad(list: &[u8]) -> bool {
+    !list.len().is_multiple_of(TRIPLE_BYTES) || list.len() / TRIPLE_BYTES > MAX_TRIPLES
+}
+
 /// Refusal 17: "when the list is not whole triples, has more than 64, or its
 /// lengths exceed the output". The lengths are added as numbers without bound.
 fn reads_are_bad(list: &[u8], output: usize) -> bool {
     let lengths = Triple::all(list).map(|triple| u128::from(triple.length));
-    !list.len().is_multiple_of(TRIPLE_BYTES)
-        || list.len() / TRIPLE_BYTES > MAX_TRIPLES
-        || lengths.sum::<u128>() > output as u128
+    list_is_bad(list) || lengths.sum::<u128>() > output as u128
 }
 
 /// The units that a read touches, of which it handed out so many bytes: "a byte
@@ -368,6 +377,48 @@ fn reads_are_bad(list: &[u8], output: usize) -> bool {
 fn units_of(offset: u64, count: u64) -> impl Iterator<Item = u64> {
     let units = (count > 0).then(|| offset / UNIT_BYTES..=(offset + count - 1) / UNIT_BYTES);
     units.into_iter().flatten()
+}
+
+/// W-204: such triples, "the bytes of all of them joined, and one time."
+fn write_batch(store: &mut Store, list: &[u8], bytes: &[u8], time: Time) -> Result<Told, Refusal> {
+    refuse_if(writes_are_bad(list, bytes.len()), 18)?;
+    Ok(single_writes(store, list, bytes, time))
+}
+
+/// "The store afterwards equals single writes in list order, and it stops at
+/// the first that is refused: the earlier ones remain, and the count says how
+/// many were done and the returned number what stopped it, 0 if all were done".
+fn single_writes(store: &mut Store, list: &[u8], bytes: &[u8], time: Time) -> Told {
+    let mut done = 0;
+    let mut rest = bytes;
+    for triple in Triple::all(list) {
+        // By refusal 18 the bytes of every write are there.
+        let (bytes, behind) = rest.split_at(triple.length as usize);
+        let single = Call::Write {
+            object: triple.object,
+            offset: triple.offset,
+            bytes: bytes.to_vec(),
+            time,
+        };
+        // By all of its refusals, 1 and 2 too: where a block is at two places,
+        // a write over the one leaves a store that 2 refuses.
+        if let Err(number) = answer(store, &single, &mut []) {
+            return (number, done);
+        }
+        done += 1;
+        rest = behind;
+    }
+    (0, done)
+}
+
+/// Refusal 18: "when the list is not whole triples, has more than 64, a length
+/// exceeds 1,048,576 or the lengths do not add up to the bytes". They are added
+/// as numbers without bound.
+fn writes_are_bad(list: &[u8], bytes: usize) -> bool {
+    let lengths = || Triple::all(list).map(|triple| u128::from(triple.length));
+    list_is_bad(list)
+        || lengths().any(|length| length > MAX_TRANSFER_BYTES as u128)
+        || lengths().sum::<u128>() != bytes as u128
 }
 
 /// "settle, which clears both bits of every retired block and answers how

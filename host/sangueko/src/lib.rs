@@ -7,7 +7,8 @@
 //! owns seven of the right lengths.
 //!
 //! A call gives its answer or a [`Refusal`], and a refused call changes no
-//! byte. A call takes any buffers: what it cannot work on it refuses.
+//! byte. A call takes any buffers: what it cannot work on it refuses. A batch of
+//! writes alone can stop on the way, and says so by [`Batched`].
 //!
 //! ```
 //! use sangueko::{Places, Refusal, StoreBuf};
@@ -31,12 +32,14 @@
 //! The library keeps no state, allocates nothing and takes less than
 //! [`STACK_BYTES`] of stack.
 
+mod batched;
 mod buffers;
 mod ffi;
 mod range;
 mod refusal;
 mod store;
 
+pub use batched::Batched;
 pub use buffers::{Places, StoreBuf};
 pub use range::Range;
 pub use refusal::Refusal;
@@ -58,8 +61,8 @@ pub const UUID_BYTES: usize = 16;
 pub const MOST_BLOCKS: usize = 65_536;
 /// Places of a book at most.
 pub const MOST_PLACES: usize = 1_048_575;
-/// Bytes that one write or read takes at most; of many reads in one call, each
-/// of them.
+/// Bytes that one write or read takes at most; of many in one call, each of
+/// them.
 pub const MOST_TRANSFER: usize = 1_048_576;
 /// Bytes of a [`Range`] in a list.
 pub const RANGE_BYTES: usize = 24;

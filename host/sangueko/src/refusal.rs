@@ -4,8 +4,8 @@ use std::error::Error;
 use std::fmt;
 
 /// The cases in which a call is refused, with the numbers of documents 01 and
-/// 02. A call tries them in the order of their numbers, but 17 right behind 2,
-/// and gives the first that applies; 9 to 14 are tried unit by unit.
+/// 02. A call tries them in the order of their numbers, but 17 and 18 right
+/// behind 2, and gives the first that applies; 9 to 14 are tried unit by unit.
 ///
 /// ```
 /// use sangueko::Refusal;
@@ -34,11 +34,12 @@ pub enum Refusal {
     NoGroupPlace = 15,
     NoExtentPlace = 16,
     BadReads = 17,
+    BadBatch = 18,
 }
 
 impl Refusal {
     /// Every refusal, in the order of their numbers.
-    pub const ALL: [Self; 17] = [
+    pub const ALL: [Self; 18] = [
         Self::WrongLength,
         Self::BrokenRule,
         Self::NoCard,
@@ -56,6 +57,7 @@ impl Refusal {
         Self::NoGroupPlace,
         Self::NoExtentPlace,
         Self::BadReads,
+        Self::BadBatch,
     ];
 
     /// The number in document 01 or 02.
@@ -131,6 +133,11 @@ impl fmt::Display for Refusal {
                 "the list of reads is not whole ranges, has too many, or asks for more bytes than \
                  the output has: give at most 64 ranges of 24 bytes, and an output as long as \
                  their lengths together"
+            }
+            Self::BadBatch => {
+                "the list of writes is not whole ranges, has too many or too long ones, or their \
+                 lengths do not add up to the bytes: give at most 64 ranges of 24 bytes, of at \
+                 most 1,048,576 bytes each, and just the bytes of all of them"
             }
         })
     }

@@ -1,7 +1,7 @@
 //! The calls on a store in lent buffers.
 
 use crate::range::with_list;
-use crate::{Range, Refusal, ffi};
+use crate::{Batched, Range, Refusal, ffi};
 
 /// The seven buffers of a store, lent. They may hold anything: a call that
 /// cannot work on them is refused.
@@ -269,6 +269,95 @@ impl Store<'_> {
     /// ```
     pub fn read_many_bytes(&self, list: &[u8], out: &mut [u8]) -> Result<u64, Refusal> {
         ffi::read_many(self, list, out)
+    }
+
+    /// Makes up to [`MOST_RANGES`](crate::MOST_RANGES) writes in one call, into
+    /// one file or several, each as [`write`](Store::write) would and all with
+    /// the one time. `bytes` is cut into pieces that lie one after another in the
+    /// order of `ranges`, each as long as its range, and has no byte more. The
+    /// writes are made in that order. The store is tested once for all of them,
+    /// but for one that something else has changed so that a block is at two
+    /// places: then before each. Nothing is allocated.
+    ///
+    /// It stops at the first write that is refused. What was done before it
+    /// remains, and this is not an error but [`Batched::Stopped`], also where it
+    /// is the first write of all. An empty range is a write, and counts.
+    ///
+    /// # Errors
+    ///
+    /// In this order: [`WrongLength`](Refusal::WrongLength),
+    /// [`BrokenRule`](Refusal::BrokenRule), [`BadBatch`](Refusal::BadBatch):
+    /// nothing was tried then, and no byte has changed.
+    ///
+    /// ```
+    /// # use sangueko::{Batched, Places, Range, Refusal, StoreBuf};
+    /// # let mut buffers = StoreBuf::new(8, Places { cards: 2, extents: 8, groups: 2 })?;
+    /// # let mut store = buffers.lend();
+    /// # store.fresh(&[0; 16], 1)?;
+    /// store.enter(7, 1_700_000_000, 0)?;
+    /// store.enter(8, 1_700_000_000, 0)?;
+    /// let range = |object, offset, length| Range { object, offset, length };
+    /// let ranges = [range(7, 0, 4), range(8, 2, 3), range(7, 2, 4)];
+    /// let batched = store.write_batch(&ranges, b"manysetakes", 1_700_000_001, 0)?;
+    /// assert_eq!(batched, Batched::All { writes: 3 });
+    /// let mut out = [1; 6];
+    /// assert_eq!(store.read(7, 0, &mut out), Ok(6));
+    /// assert_eq!(&out, b"maakes"); // the later write stands over the first
+    ///
+    /// // There is no file 9: the write before it remains, the one behind is not made.
+    /// let ranges = [range(7, 0, 1), range(9, 0, 1), range(7, 1, 1)];
+    /// match store.write_batch(&ranges, b"bat", 1_700_000_002, 0)? {
+    ///     Batched::All { .. } => unreachable!(),
+    ///     Batched::Stopped { done, by } => {
+    ///         assert_eq!((done, by), (1, Refusal::NoCard));
+    ///         assert_eq!(ranges[done].object, 9);
+    ///     }
+    /// }
+    /// assert_eq!(store.read(7, 0, &mut out), Ok(6));
+    /// assert_eq!(&out, b"baakes");
+    ///
+    /// // A byte too many: nothing is tried.
+    /// assert_eq!(store.write_batch(&ranges, b"bats", 0, 0), Err(Refusal::BadBatch));
+    /// # Ok::<(), Refusal>(())
+    /// ```
+    pub fn write_batch(
+        &mut self,
+        ranges: &[Range],
+        bytes: &[u8],
+        seconds: u64,
+        nanoseconds: u64,
+    ) -> Result<Batched, Refusal> {
+        with_list(ranges, |list| {
+            self.write_batch_bytes(list, bytes, seconds, nanoseconds)
+        })
+    }
+
+    /// [`write_batch`](Store::write_batch) of a list that is bytes already, as
+    /// that of [`read_many_bytes`](Store::read_many_bytes) is.
+    ///
+    /// # Errors
+    ///
+    /// Those of `write_batch`.
+    ///
+    /// ```
+    /// # use sangueko::{Batched, Places, Refusal, StoreBuf};
+    /// # let mut buffers = StoreBuf::new(8, Places { cards: 1, extents: 8, groups: 1 })?;
+    /// # let mut store = buffers.lend();
+    /// # store.fresh(&[0; 16], 1)?;
+    /// assert_eq!(store.write_batch_bytes(&[], &[], 0, 0), Ok(Batched::All { writes: 0 }));
+    /// assert_eq!(store.write_batch_bytes(&[0; 23], &[], 0, 0), Err(Refusal::BadBatch));
+    /// let by = Refusal::NoCard; // of file 0
+    /// assert_eq!(store.write_batch_bytes(&[0; 24], &[], 0, 0), Ok(Batched::Stopped { done: 0, by }));
+    /// # Ok::<(), Refusal>(())
+    /// ```
+    pub fn write_batch_bytes(
+        &mut self,
+        list: &[u8],
+        bytes: &[u8],
+        seconds: u64,
+        nanoseconds: u64,
+    ) -> Result<Batched, Refusal> {
+        ffi::write_batch(self, list, bytes, seconds, nanoseconds)
     }
 
     /// Lets the retired blocks go, which files have given up: they are free

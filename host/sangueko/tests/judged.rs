@@ -7,9 +7,11 @@ use std::thread;
 
 use archive::Archive;
 use compare::alone::{TIME, calls, fresh, sounds};
+use compare::batch::shared_block;
 use compare::gate::judge;
 use compare::library::Library;
 use compare::lists::read_many;
+use compare::writes::write_batch;
 use model::{Answer, Call};
 
 /// Without guard pages, then with them on either side of every buffer.
@@ -30,14 +32,19 @@ fn the_library_answers_as_the_model() {
 }
 
 /// Every number that a call gives, all of which the gate meets. A grow does not
-/// give 15: the tail unit that it rewrites has its group.
-const NUMBERS: [(&str, &[u32]); 8] = [
+/// give 15: the tail unit that it rewrites has its group. A batch gives those of a
+/// write, and 18.
+const NUMBERS: [(&str, &[u32]); 9] = [
     ("fresh", &[0, 1]),
     ("enter", &[0, 1, 2, 4, 7, 8]),
     ("write", &[0, 1, 2, 3, 5, 7, 9, 10, 11, 12, 13, 14, 15, 16]),
     ("grow", &[0, 1, 2, 3, 5, 6, 7, 9, 10, 11, 12, 13, 14, 16]),
     ("read", &[0, 1, 2, 3, 9, 10, 11, 12]),
     ("read_many", &[0, 1, 2, 3, 9, 10, 11, 12, 17]),
+    (
+        "write_batch",
+        &[0, 1, 2, 3, 5, 7, 9, 10, 11, 12, 13, 14, 15, 16, 18],
+    ),
     ("settle", &[0, 1, 2]),
     ("fill", &[0, 1, 2]),
 ];
@@ -69,6 +76,9 @@ fn each_call_runs_on_256_kib_of_stack() {
             on_little_stack(&store, &call);
         }
     }
+    // Where the store is tested before each write of a batch.
+    let over = write_batch(&[(7, 0, 4_096), (8, 0, 1)]);
+    on_little_stack(&shared_block(), &over);
     // As many units as one call can have: 17 that are touched, and the tail.
     let write = |offset, length| Call::Write {
         object: 7,
@@ -98,6 +108,10 @@ fn each_call_runs_on_256_kib_of_stack() {
             length: 1 << 20,
         },
         most_reads(),
+        Call::Settle,
+        write_batch(&[(7, 77, 1 << 20), (7, 5 << 20, 70_000)]),
+        Call::Settle,
+        write_batch(&[(7, 77, 100); 64]),
     ] {
         on_little_stack(&store, &call);
         assert_eq!(model::run(&mut store, &call).number, 0, "{}", call.name());

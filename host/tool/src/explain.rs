@@ -19,20 +19,23 @@ fn advice(refusal: Refusal) -> (&'static str, &'static str) {
              the disk has changed the files. Put the folder back from a copy.",
         ),
         Refusal::NoCard => (
-            "write, grow, read, flags",
+            "write, batch, grow, read, flags",
             "`sangueko show FOLDER` lists the files; `sangueko enter FOLDER OBJECT` makes a new one.",
         ),
         Refusal::CardExists => (
             "enter",
             "Write to the file as it is, or choose another number; `sangueko show FOLDER` lists those in use.",
         ),
-        Refusal::PastLimit => ("write, grow", "Choose a smaller --at or SIZE."),
+        Refusal::PastLimit => (
+            "write, batch, grow",
+            "Choose a smaller --at, OFFSET or SIZE.",
+        ),
         Refusal::BelowSize => (
             "grow",
             "Files do not get shorter. To keep less of one, read the part and write it to a new file.",
         ),
         Refusal::BadTime => (
-            "enter, write, grow",
+            "enter, write, batch, grow",
             "Leave --time away to use the clock's, or give a smaller one.",
         ),
         Refusal::NoCardPlace => (
@@ -59,22 +62,22 @@ fn advice(refusal: Refusal) -> (&'static str, &'static str) {
              again, or restore from a copy. Other files and units are not touched by it.",
         ),
         Refusal::NoSpace => (
-            "write, grow",
+            "write, batch, grow",
             "`sangueko settle FOLDER` lets retired blocks go; `sangueko show FOLDER` tells how many there are. If that is too few, make a larger \
-             store and copy the files over with read and write. What a write stored in earlier calls stays stored, and \
-             it says how much.",
+             store and copy the files over with read and write. What a write stored in earlier calls, or a batch in earlier \
+             writes, stays stored, and the message says how much.",
         ),
         Refusal::CountDisagrees => (
-            "write, grow",
+            "write, batch, grow",
             "The card's count is wrong, and no list of calls leads there. Restore from a copy, or read the file and \
              write it to a new store: reads do not use the count.",
         ),
         Refusal::NoGroupPlace => (
-            "write",
+            "write, batch",
             "Each 16 MiB of a file that hold data take a place. Make a store with more --groups and copy the files over.",
         ),
         Refusal::NoExtentPlace => (
-            "write, grow",
+            "write, batch, grow",
             "The files lie in too many pieces for the book. Settle, then write files again in one go, or make a store with more \
              --extents; as many as there are blocks are always enough.",
         ),
@@ -82,6 +85,12 @@ fn advice(refusal: Refusal) -> (&'static str, &'static str) {
             "no command, since the tool makes its lists itself; programs that call the library",
             "Cut a longer list into several calls of 64 reads, and lend an output that is at least as long as the \
              lengths together. `sangueko read FOLDER OBJECT --ranges-from FILE` does that for any number of ranges.",
+        ),
+        Refusal::BadBatch => (
+            "no command, since the tool makes its lists itself; programs that call the library",
+            "Cut a longer list into several calls of 64 writes, and what has over 1,048,576 bytes into several writes; lend the \
+             bytes of all writes of the call, one behind the other, and no others. `sangueko batch FOLDER LIST` makes the calls for any \
+             number of writes.",
         ),
     }
 }
@@ -96,6 +105,6 @@ pub fn explain(number: u32) -> Result<String, Failure> {
     let (commands, advice) = advice(refusal);
     Ok(format!(
         "refusal {number}: {refusal}.\n\nWhere it comes: {commands}.\nWhat to do: {advice}\n\n\
-         The refused call changed nothing.\n"
+         The refused call changed nothing. A batch stops at the write that is refused, which changed nothing; those before it stay.\n"
     ))
 }

@@ -227,20 +227,25 @@ impl Loaded {
 impl Open {
     /// One call, stored. A refused call changes no byte, so that there is nothing
     /// to store.
-    pub fn call(
+    pub fn call<T>(
         &mut self,
         doing: &str,
-        call: impl FnOnce(&mut Store<'_>) -> Result<u64, Refusal>,
-    ) -> Result<u64, Failure> {
+        call: impl FnOnce(&mut Store<'_>) -> Result<T, Refusal>,
+    ) -> Result<T, Failure> {
         let before = Before::of(&self.loaded.store);
         let answer = call(&mut self.loaded.store.lend());
-        let count = answer.map_err(|refusal| self.loaded.refused(doing, refusal))?;
+        let answer = answer.map_err(|refusal| self.refused(doing, refusal))?;
         let changes = before.changes(&self.loaded.store);
         if !changes.is_empty() {
             let journal = journal::encode(&self.loaded.store, &changes);
             journal::store(&mut FolderDisk::new(&self.folder.path), &journal)
                 .map_err(|why| self.folder.unstored(doing, why))?;
         }
-        Ok(count)
+        Ok(answer)
+    }
+
+    /// The refusal, as of a loaded store.
+    pub fn refused(&self, doing: impl Into<String>, refusal: Refusal) -> Failure {
+        self.loaded.refused(doing, refusal)
     }
 }

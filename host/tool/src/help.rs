@@ -8,6 +8,7 @@ sangueko: stores of files in folders, over the proved library
   sangueko new FOLDER                    make a store
   sangueko enter FOLDER OBJECT           add a file, which has a number and no name
   sangueko write FOLDER OBJECT [FILE]    write a file or standard input into it
+  sangueko batch FOLDER [LIST]           make many small writes, to one file or several
   sangueko read FOLDER OBJECT            give its bytes, or those of many ranges
   sangueko grow FOLDER OBJECT SIZE       make it longer
   sangueko settle FOLDER                 let retired blocks go
@@ -21,16 +22,17 @@ sangueko: stores of files in folders, over the proved library
 cards, extents, groups, used and retired, the bytes of document 01's buffers; docs/TOOL.md
 says more.
 
-Exit codes: 0 done; 1 to 17 the refusal of that number, and nothing was changed by the
-refused call; 64 the command line is wrong; 66 the folder is not a store, or already one;
-74 reading or writing failed; 75 another process has the folder (--no-wait).
+Exit codes: 0 done; 1 to 18 the refusal of that number, and nothing was changed by the
+refused call, or by the refused write of a batch; 64 the command line is wrong; 66 the folder
+is not a store, or already one; 74 reading or writing failed; 75 another process has the
+folder (--no-wait).
 Results go to standard output, errors to standard error.
 ";
 
 const NO_WAIT: &str = "--no-wait";
 const JSON: &str = "--json";
 
-pub const COMMANDS: [Spec; 11] = [
+pub const COMMANDS: [Spec; 12] = [
     Spec {
         name: "new",
         words: &["FOLDER"],
@@ -73,6 +75,24 @@ one of them is refused, those before it stay, and the message says how many byte
   --at OFFSET    the first byte to write (0)
   --time S       seconds since 1970, with up to nine digits after a point (now)
   --no-wait      do not wait for another process, end with 75
+",
+    },
+    Spec {
+        name: "batch",
+        words: &["FOLDER", "[LIST]"],
+        options: &["--time"],
+        switches: &[NO_WAIT],
+        help: "\
+Makes the writes of LIST, or of standard input where it is not named or `-`, in the order in which they are listed and
+all with one time. A line OBJECT OFFSET BYTES is a write; BYTES are two hexadecimal digits for each byte, or @FILE for
+all that a file holds, 1,048,576 bytes at most. Empty lines and lines that begin with # are passed over. A line that is
+wrong ends it before anything is written.
+
+  --time S       seconds since 1970, with up to nine digits after a point (now)
+  --no-wait      do not wait for another process, end with 75
+
+A call of the library makes up to 64 writes, and is stored by itself. It stops at the first write that is refused: those
+before it stay, those behind it are not made, and the message names the line and says how many are stored.
 ",
     },
     Spec {
@@ -181,7 +201,7 @@ many of those lie in units that were never written. Bin n is bit n mod 8 of byte
         options: &[],
         switches: &[],
         help: "\
-Tells what refusal N, 1 to 17, means and what can be done.
+Tells what refusal N, 1 to 18, means and what can be done.
 ",
     },
 ];

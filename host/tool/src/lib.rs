@@ -5,6 +5,7 @@
 //! tell.
 
 mod args;
+mod batch;
 pub mod buffer;
 mod check;
 mod crc32c;
@@ -83,6 +84,7 @@ fn run(arguments: &[OsString]) -> Result<(), Failure> {
         "new" => new(&given),
         "enter" => enter(&given),
         "write" => write(&given),
+        "batch" => batch(&given),
         "read" => read(&given),
         "grow" => grow(&given),
         "settle" => settle(&given),
@@ -164,6 +166,19 @@ fn write(given: &Given) -> Result<(), Failure> {
         "wrote {} to file {object} at byte {} in {}\n",
         counted(written.bytes, "byte"),
         grouped(offset),
+        counted(written.calls, "call")
+    ))
+}
+
+fn batch(given: &Given) -> Result<(), Failure> {
+    let time = given.time()?;
+    let folder = folder(given)?;
+    let list = batch::List::of(Source::of(given.optional_word(1))?)?;
+    let written = batch::write(folder, &list, time)?;
+    print(&format!(
+        "made {} of {} in {}\n",
+        counted(list.writes(), "write"),
+        counted(written.bytes, "byte"),
         counted(written.calls, "call")
     ))
 }

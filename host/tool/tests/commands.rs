@@ -299,7 +299,7 @@ fn explain_has_a_word_on_every_refusal() {
         assert!(text.contains(&refusal.to_string()), "{text}");
         assert!(text.contains("What to do: "), "{text}");
     }
-    assert!(refused(&["explain", "18"], 64).contains("1 to 17"));
+    assert!(refused(&["explain", "19"], 64).contains("1 to 18"));
     refused(&["explain", "0"], 64);
 }
 
@@ -380,8 +380,8 @@ fn wrong_words_end_with_64() {
 fn every_command_has_help() {
     let top = done(&["--help"]);
     for name in [
-        "new", "enter", "write", "read", "grow", "settle", "fill", "show", "check", "flags",
-        "explain",
+        "new", "enter", "write", "batch", "read", "grow", "settle", "fill", "show", "check",
+        "flags", "explain",
     ] {
         assert!(top.contains(&format!("sangueko {name} ")), "{name}");
         let help = done(&[name, "--help"]);

@@ -85,6 +85,59 @@ fn killed_at_random_the_folder_is_a_whole_number_of_calls() {
     assert!(killed > WRITES / 4, "{killed} killed");
 }
 
+/// Batches of three calls, 150 writes each: of a call the folder has all writes
+/// or none.
+#[test]
+fn killed_in_a_batch_the_folder_is_a_whole_number_of_calls() {
+    let temporary = Temporary::new();
+    let store = temporary.path("store");
+    let folder = store.to_str().unwrap();
+    done(&["new", folder, "--blocks", "1000", "--uuid", UUID_DIGITS]);
+    done(&["enter", folder, "1"]);
+    let mut random = Rng::new(5);
+    let mut whole = Duration::from_millis(50);
+    let (mut killed, mut between) = (0, 0);
+    for round in 0..30 {
+        let mut states = vec![store_in(&store)];
+        let mut list = String::new();
+        for call in [64, 64, 22] {
+            let mut next = states[states.len() - 1].clone();
+            for _ in 0..call {
+                let (offset, byte) = (random.below(12_000), random.next_u64() as u8);
+                next.lend().write(1, offset, &[byte], 5, 0).unwrap();
+                list += &format!("1 {offset} {byte:02x}\n");
+            }
+            states.push(next);
+        }
+        let listed = temporary.file("list", list.as_bytes());
+        let words = ["batch", folder, listed.to_str().unwrap(), "--time", "5"];
+        let began = Instant::now();
+        let mut child = command(&words)
+            .stdout(std::process::Stdio::null())
+            .spawn()
+            .unwrap();
+        // every tenth shows how long one takes
+        if round % 10 != 0 {
+            let pause = random.below(whole.as_micros() as u64 * 12 / 10 + 1);
+            std::thread::sleep(Duration::from_micros(pause));
+            let _ = child.kill();
+        }
+        killed += usize::from(child.wait().unwrap().code().is_none());
+        if round % 10 == 0 {
+            whole = began.elapsed();
+        }
+        let checked = done(&["check", folder]);
+        assert!(checked.ends_with("accepted\n"), "{checked}");
+        let now = store_in(&store);
+        let calls = states.iter().position(|state| *state == now);
+        let calls = calls.unwrap_or_else(|| panic!("round {round}: no whole number of calls"));
+        between += usize::from(calls > 0 && calls + 1 < states.len());
+        done(&["settle", folder]);
+    }
+    println!("{killed} of 30 killed, {between} between calls");
+    assert!(killed > 30 / 4, "{killed} killed");
+}
+
 #[test]
 fn a_new_store_is_there_whole_or_not_at_all() {
     let temporary = Temporary::new();

@@ -66,6 +66,7 @@ fn answer(store: &mut Store, call: &Call, output: &mut [u8]) -> Outcome {
         Call::Fresh { .. }
         | Call::Enter { .. }
         | Call::ReadMany { .. }
+        | Call::WriteBatch { .. }
         | Call::Settle
         | Call::Fill => return Outcome::NoCounterpart,
     };

@@ -1,7 +1,7 @@
 //! The library of the comparison that is the linked archive.
 
 use compare::library::{Lent, Library, Request, Told};
-use sangueko::{Refusal, Store};
+use sangueko::{Batched, Refusal, Store};
 
 /// The linked archive, through the safe calls.
 pub struct Archive;
@@ -45,14 +45,43 @@ impl Library for Archive {
                 out,
             } => store.read(object, offset, out),
             Request::ReadMany { list, out } => store.read_many_bytes(list, out),
+            Request::WriteBatch {
+                list,
+                bytes,
+                seconds,
+                nanoseconds,
+            } => return batched(store.write_batch_bytes(list, bytes, seconds, nanoseconds)),
         })
     }
 }
 
 fn told(result: Result<u64, Refusal>) -> Told {
-    let (number, count) = match result {
-        Ok(count) => (0, count),
-        Err(refusal) => (refusal.number(), 0),
+    match result {
+        Ok(count) => Told {
+            number: 0,
+            count,
+            refused: false,
+        },
+        Err(refusal) => refused(refusal),
+    }
+}
+
+fn refused(refusal: Refusal) -> Told {
+    Told {
+        number: refusal.number(),
+        count: 0,
+        refused: true,
+    }
+}
+
+fn batched(result: Result<Batched, Refusal>) -> Told {
+    let batched = match result {
+        Ok(batched) => batched,
+        Err(refusal) => return refused(refusal),
     };
-    Told { number, count }
+    Told {
+        number: batched.stopped_by().map_or(0, Refusal::number),
+        count: batched.done() as u64,
+        refused: false,
+    }
 }
