@@ -197,9 +197,11 @@ module _ (list bytes : List ℕ) (seconds nanoseconds : ℕ) (shared : Bool) (st
                 first = unfold batchFrom call tripleOf in after-accepted i s _ _ (unfold call in accepted)
 
     -- all were done
-    pub between-last : n ≤ i → answered 0 i s ≡ batchFrom (decodeTriples list) bytes time 0 start
+    pub between-last : i ≤ n → n ≤ i → answered 0 n s ≡ batchFrom (decodeTriples list) bytes time 0 start
     unfolding batchFrom
-    between-last l = ap (λ (ts : List Triple). batchFrom ts (drop place bytes) time i s) (sym (from-end list i (omega (arith, l, q)))) ∙ h .same
+    between-last k l =
+        let e : n ≡ i = omega (arith, k, l) in
+        rw e (ap (λ (ts : List Triple). batchFrom ts (drop place bytes) time i s) (sym (from-end list i (omega (arith, l, q)))) ∙ h .same)
 
 -- ---- blocks that are shared
 

@@ -154,7 +154,7 @@ fn write_all(
     }
     Done {
         number: 0,
-        count: i as u64,
+        count: n as u64,
     }
 }
 

@@ -102,7 +102,7 @@ same-length-14 : tie.Need-same-length-14 Inv-loop μ-loop
 same-length-14 c = search needs
 
 returns-2 : tie.Need-returns-2 Inv-loop μ-loop
-returns-2 c = between-last _ _ _ _ _ _ _ _ _ _ _ refl (c .before .loop .inv .2) (c .loop-test .left)
+returns-2 c = between-last _ _ _ _ _ _ _ _ _ _ _ refl (c .before .loop .inv .2) (c .before .loop .inv .0) (c .loop-test .left)
 
 pub write-all-spec : {M : Type 1} → statement M
 write-all-spec =
