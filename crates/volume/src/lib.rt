@@ -218,7 +218,7 @@ pub extern "C" fn sangueko_write_batch(
     if number != 0 {
         return Answer { number, count: 0 };
     }
-    let done = batch::write_batch(
+    let written = batch::write_batch(
         image,
         head,
         cards,
@@ -232,8 +232,8 @@ pub extern "C" fn sangueko_write_batch(
         nanoseconds,
     );
     Answer {
-        number: done.number,
-        count: done.count,
+        number: written.number,
+        count: written.count,
     }
 }
 

@@ -73,11 +73,13 @@ loop-again c =
     let v = c .before .before .before .before .before .before .before .before .before .before .before .before .before .before .before .before .before .before .before .before .before .before .before .before .before .before .loop .inv in
     let t = c .before .before .before .before .before .before .before .before .before .before .before .before .before .before .before .before .before .before .before .before .before .before .before .before .before .loop-test .taken in
     let h = c .before .before .before .before .before .before .before .before .before .before .before .before .before .before .before .write-next in
-    let f = c .before .before .before .before .before .before .before .before .before .before .before .before .before .before .before .before .before .before .before .before .before .before .before .before .before .before .before .before .before .before .before .before .before .before .before .before .fits in (
+    let f = c .before .before .before .before .before .before .before .before .before .before .before .before .before .before .before .before .before .before .before .before .before .before .before .before .before .before .before .before .before .before .before .before .before .before .before .before .fits in
+    let n =
+    between-more _ _ _ _ _ _ _ _ _ _ _ refl (v .2) _ t (c .before .before .before .before .before .before .before .before .before .before .before .before .before .before .before .before .before .before .before .before .before .before .before .before .triple-at .ensures) _ _ (h .ensures)
+    (λ k. c .before .before .before .before .before .before .before .before .before .before .before .before .before .before .before .before .before .before .before .before .before .before .before .before .before .before .before .before .shared-slice-known .given k .fits) (λ k. c .before .before .before .before .before .before .before .before .before .before .before .before .before .before .before .before .before .before .before .before .before .before .before .before .before .before .before .shared-slice-known2 .given k .fits) (f .seconds .fits, f .nanoseconds .fits) (c .if1 .left) in (
       omega (arith, t),
       (h .kept .0 ∙ v .1 .0, h .kept .1 .0 ∙ v .1 .1, h .kept .1 .1 .0 ∙ v .1 .2, h .kept .1 .1 .1 .0 ∙ v .1 .3, h .kept .1 .1 .1 .1 .0 ∙ v .1 .4, h .kept .1 .1 .1 .1 .1 .0 ∙ v .1 .5, h .kept .1 .1 .1 .1 .1 .1 .0 ∙ v .1 .6),
-      between-more _ _ _ _ _ _ _ _ _ _ _ refl (v .2) _ t (c .before .before .before .before .before .before .before .before .before .before .before .before .before .before .before .before .before .before .before .before .before .before .before .before .triple-at .ensures) _ _ (h .ensures)
-          (λ k. c .before .before .before .before .before .before .before .before .before .before .before .before .before .before .before .before .before .before .before .before .before .before .before .before .before .before .before .before .shared-slice-known .given k .fits) (λ k. c .before .before .before .before .before .before .before .before .before .before .before .before .before .before .before .before .before .before .before .before .before .before .before .before .before .before .before .shared-slice-known2 .given k .fits) (f .seconds .fits, f .nanoseconds .fits) (c .if1 .left),
+      record { room = n .room; lent-bytes = n .lent-bytes; tested = n .tested; safe = n .safe; same = n .same },
     )
 
 same-length-8 : tie.Need-same-length-8 Inv-loop μ-loop
