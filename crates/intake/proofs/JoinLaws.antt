@@ -24,8 +24,8 @@ use Rattle.rules.proofs.PassLaws.{each-passed, BuffersSized, HeadRoom, buffers-
 use Rattle.bitmap.specs.Pair.{only, inside}
 use Rattle.bitmap.proofs.PairLaws.{same-tests}
 use Rattle.intake.specs.Join.{storeNumber, LengthsRight}
-use Rattle.intake.specs.MapTests as tests
-use Rattle.intake.specs.MapTests.{blocksMappable, extentMappable, mapsAlone, mapsRight, placed, MapsSized}
+use Rattle.intake_maps.specs.MapTests as tests
+use Rattle.intake_maps.specs.MapTests.{blocksMappable, extentMappable, mapsAlone, mapsRight, placed, MapsSized}
 
 -- ---- what refusal 1 leaves
 

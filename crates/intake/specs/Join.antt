@@ -13,7 +13,7 @@ use Rattle.rules.specs.Refusal.{firstOf}
 use Rattle.rules.specs.Refusal.Outcome.{accept}
 use Rattle.rules.specs.Answers.{outcomeNumber}
 use Rattle.rules.specs.Integrity.{storeCases}
-use Rattle.intake.specs.MapTests.{MapsSized}
+use Rattle.intake_maps.specs.MapTests.{MapsSized}
 
 -- the number of the first of refusals 1 and 2 whose case holds, or 0
 unfoldable pub storeNumber : Store → ℕ

@@ -1,4 +1,1 @@
-pub mod BookTests
 pub mod Join
-pub mod LengthTests
-pub mod MapTests

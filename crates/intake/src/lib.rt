@@ -1,12 +1,8 @@
 // Refusals 1 and 2: whether a lent store is one that a call may work on.
 //
-// `lengths` has the tests of refusal 1, `books` and `maps` those of refusal 2. Each takes one slice and a number, so that it can be asked of parts of
-// other buffers; those of refusal 2 may assume what refusal 1 found, those of the maps what was found of the books. The functions here join them, with
-// no assumption left: the calls behind `refused` may assume that it answered 0.
-pub mod books;
-pub mod lengths;
-pub mod maps;
-
+// `intake_lengths` has the tests of refusal 1, `intake_books` and `intake_maps` those of refusal 2. Each takes one slice and a number, so that it can be asked
+// of parts of other buffers; those of refusal 2 may assume what refusal 1 found, those of the maps what was found of the books. The functions here join them,
+// with no assumption left: the calls behind `refused` may assume that it answered 0.
 ghost use mathlib.Core.Path.{_≡_};
 ghost use mathlib.Core.List.{[]};
 ghost use Rattle.rules.specs.Store.{lent};
@@ -27,7 +23,7 @@ pub fn rule_broken(
 {
     let h = format::head::decode_head(head);
     let n = h.extents as usize;
-    if books::books_broken(
+    if intake_books::books_broken(
         h.blocks,
         cards,
         h.cards as usize,
@@ -38,7 +34,7 @@ pub fn rule_broken(
     ) {
         return true;
     }
-    maps::maps_broken(
+    intake_maps::maps_broken(
         extents,
         n,
         h.blocks as usize,
@@ -60,7 +56,7 @@ pub fn refused(
 ) -> u32
     ensures { λ r. ⌜ r ≡ storeNumber (lent (now (image .entry)) (now (head .entry)) (now (cards .entry)) (now (extents .entry)) (now (groups .entry)) (now (used .entry)) (now (retired .entry))) ⌝ }
 {
-    if lengths::lengths_wrong(image, head, cards, extents, groups, used, retired) {
+    if intake_lengths::lengths_wrong(image, head, cards, extents, groups, used, retired) {
         return 1;
     }
     if rule_broken(head, cards, extents, groups, used, retired) {

@@ -23,7 +23,7 @@ pub extern "C" fn sangueko_probe_books_broken(
     if groups.len() / GROUP_BYTES < k {
         return true;
     }
-    intake::books::books_broken(blocks, cards, n, extents, m, groups, k)
+    intake_books::books_broken(blocks, cards, n, extents, m, groups, k)
 }
 
 // The place of the first of `n` cards whose object is `object` or more, or `n`; 0 where so many do not fit.

@@ -289,7 +289,7 @@ pub extern "C" fn sangueko_fresh(
 ) -> Answer
     ensures { λ r. ⌜ gave (r .number) (r .count) (lent (now (image .entry)) (now (head .exit)) (now (cards .exit)) (now (extents .exit)) (now (groups .exit)) (now (used .exit)) (now (retired .exit))) ≡ call (fresh (now (uuid .entry)) reserved) (lent (now (image .entry)) (now (head .entry)) (now (cards .entry)) (now (extents .entry)) (now (groups .entry)) (now (used .entry)) (now (retired .entry))) ⌝ }
 {
-    if intake::lengths::fresh_length_wrong(
+    if intake_lengths::fresh_length_wrong(
         image,
         head,
         cards,

@@ -1,0 +1,4 @@
+pub mod BookRules
+pub mod FileLaws
+pub mod RecordRules
+pub mod WalkLaws

@@ -1,0 +1,22 @@
+-- `intake_books::card_right` meets its contract.
+-- Assumes nothing.
+use borrow.Author.Needs.{needs}
+use Rattle.intake_books.proofs.RecordRules.{card-spare-not, card-time}
+use Rattle.intake_books.proofs.card_right.Statement.{statement}
+use Rattle.intake_books.proofs.card_right.Tie as tie
+
+card-spare-zero-requires : tie.Need-card-spare-zero-requires
+card-spare-zero-requires c κs = search needs
+
+returns : tie.Need-returns
+returns c = search (card-spare-not, needs)
+
+card-nanoseconds-requires : tie.Need-card-nanoseconds-requires
+card-nanoseconds-requires c κs = search needs
+
+returns-2 : tie.Need-returns-2
+returns-2 c = search (card-time, needs)
+
+pub card-right-spec : {M : Type 1} → statement M
+card-right-spec =
+    tie.close (tie.spec card-spare-zero-requires returns card-nanoseconds-requires returns-2)
