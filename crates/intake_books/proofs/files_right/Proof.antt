@@ -44,7 +44,7 @@ loop-less : tie.Need-loop-less Inv-loop μ-loop
 loop-less c = search needs
 
 loop-again : tie.Need-loop-again Inv-loop μ-loop
-loop-again c = search (passed-on, filed-through, needs)
+loop-again c = (search needs, search needs, search (passed-on, needs), filed-through _ _ _ _ _ _ _ _ (c .before .before .before .before .before .before .before .loop .inv .2) (c .before .before .before .before .before .before .loop-test .taken) (c .before .before .before .before .before .decode-extent .ensures) (c .before .before .before .before .card-from .ensures) (c .before .before .before .before .before .before .before .before .before .before .pre .1 .0) _ (c .before .before .before .in-file .ensures) (c .before .before .if1 .left) _ _ (c .before .file-blocks .ensures) (c .same-file .ensures) (c .before .before .before .before .before .before .before .loop .inv .3))
 
 returns-2 : tie.Need-returns-2 Inv-loop μ-loop
 returns-2 c = search (filed-done, needs)
