@@ -9,6 +9,7 @@ use model::{
 
 use crate::alone::seal;
 use crate::edges::{Edge, Unit, after, edge, enter, grow, pair, with, write};
+use crate::many::files_on;
 use crate::writes::{TIME, Write, batch_of, write_batch};
 
 const MIB: u64 = MAX_TRANSFER_BYTES as u64;
@@ -36,16 +37,7 @@ pub fn batches() -> Vec<Edge> {
 /// Files 5 (empty), 6 (a hole of three units), 7 (two units) and 8 (one unit);
 /// none of number 9. 80 blocks are free.
 pub fn files() -> Arc<Store> {
-    let calls = [
-        enter(5),
-        enter(6),
-        enter(7),
-        enter(8),
-        grow(6, 150_000),
-        write(7, 0, 70_000),
-        write(8, 0, 4_000),
-    ];
-    after(Store::blank(100, 5, 20, 6), 1, &calls)
+    files_on(Store::blank(100, 5, 20, 6))
 }
 
 /// Files 7 and 8 of one block each, and both have the same.

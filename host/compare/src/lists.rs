@@ -97,6 +97,32 @@ const SHIFTS: [i64; 12] = [
     0, 0, 1, -1, 10, -10, 4_096, -4_096, 65_535, 65_536, -65_536, 131_072,
 ];
 
+/// So many triples, each made with those before it in sight, up to so many bytes
+/// together. A length past every buffer stands: the list that has it is refused.
+pub fn up_to(number: u64, most: u128, mut next: impl FnMut(&[Triple]) -> Triple) -> Vec<Triple> {
+    let mut triples = Vec::new();
+    let mut sum = 0;
+    for _ in 0..number {
+        let triple = next(&triples);
+        sum += u128::from(triple.length);
+        if (most..1 << 32).contains(&sum) {
+            break;
+        }
+        triples.push(triple);
+    }
+    triples
+}
+
+/// The bytes of a list, now and then not whole triples.
+pub fn list_of(rng: &mut Rng, triples: &[Triple]) -> Vec<u8> {
+    let mut list = Triple::list(triples);
+    if rng.percent(2) {
+        let bytes = list.len() + rng.between(1, TRIPLE_BYTES as u64 - 1) as usize;
+        list.resize(bytes, 0);
+    }
+    list
+}
+
 impl Lists {
     pub fn new(seed: u64, number: u64) -> Self {
         let mut rng = Rng::new(seed.rotate_left(24) ^ number.wrapping_mul(0xa076_1d64_78bd_642f));
@@ -120,11 +146,7 @@ impl Lists {
             1..5 => sum + rng.between(1, 5_000) as usize,
             _ => sum,
         };
-        let mut list = Triple::list(&triples);
-        if rng.percent(2) {
-            let bytes = list.len() + rng.between(1, TRIPLE_BYTES as u64 - 1) as usize;
-            list.resize(bytes, 0);
-        }
+        let list = list_of(rng, &triples);
         Some(Call::ReadMany { list, length })
     }
 
@@ -135,18 +157,9 @@ impl Lists {
             2..5 => self.rng.between(9, 40),
             _ => self.rng.below(9),
         };
-        let mut triples = Vec::new();
-        let mut sum = 0;
-        for _ in 0..number {
-            let triple = self.triple(history, volume, &triples);
-            sum += u128::from(triple.length);
-            // A length past every buffer stands: 17 refuses its list.
-            if (MOST_BYTES..1 << 32).contains(&sum) {
-                break;
-            }
-            triples.push(triple);
-        }
-        triples
+        up_to(number, MOST_BYTES, |earlier| {
+            self.triple(history, volume, earlier)
+        })
     }
 
     fn triple(&mut self, history: &History, volume: &Volume, earlier: &[Triple]) -> Triple {

@@ -27,9 +27,14 @@ pub fn many() -> Vec<Edge> {
     all
 }
 
+/// The files that [`files_on`] enters, on a store that they nearly fill.
+pub fn files() -> Arc<Store> {
+    files_on(Store::blank(30, 5, 8, 4))
+}
+
 /// Files 5 (empty), 6 (a hole of three units), 7 (two units) and 8 (one unit);
 /// none of number 9.
-pub fn files() -> Arc<Store> {
+pub fn files_on(blank: Store) -> Arc<Store> {
     let calls = [
         enter(5),
         enter(6),
@@ -39,7 +44,7 @@ pub fn files() -> Arc<Store> {
         write(7, 0, 70_000),
         write(8, 0, 4_000),
     ];
-    after(Store::blank(30, 5, 8, 4), 1, &calls)
+    after(blank, 1, &calls)
 }
 
 /// A buffer of just the lengths.

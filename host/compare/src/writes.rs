@@ -1,7 +1,6 @@
 //! Batches of writes: made of their parts, as the single writes that they stand
 //! for, and at random within a history.
 
-use model::records::TRIPLE_BYTES;
 use model::{
     Answer, BLOCK_BYTES, Call, MAX_TRANSFER_BYTES, MAX_TRIPLES, Store, Time, Triple, Volume,
 };
@@ -9,7 +8,7 @@ use oracle::{OracleAnswer, Outcome};
 use random::Rng;
 
 use crate::generate::{History, Profile, bytes, time};
-use crate::lists::{lengths, near};
+use crate::lists::{lengths, list_of, near, up_to};
 
 /// A write of a batch: object, offset and length.
 pub type Write = (u64, u64, u64);
@@ -178,11 +177,7 @@ impl Batches {
             1 => sum + rng.between(1, 100) as usize,
             _ => sum,
         };
-        let mut list = Triple::list(&triples);
-        if rng.percent(2) {
-            let bytes = list.len() + rng.between(1, TRIPLE_BYTES as u64 - 1) as usize;
-            list.resize(bytes, 0);
-        }
+        let list = list_of(rng, &triples);
         Some(Call::WriteBatch {
             list,
             bytes: bytes(rng, length),
@@ -205,18 +200,9 @@ impl Batches {
         } else {
             number
         };
-        let mut triples = Vec::new();
-        let mut sum = 0;
-        for _ in 0..number {
-            let triple = self.triple(history, volume, &triples);
-            sum += u128::from(triple.length);
-            // A length past every buffer stands: 18 refuses its batch.
-            if (MOST_BYTES..1 << 32).contains(&sum) {
-                break;
-            }
-            triples.push(triple);
-        }
-        triples
+        up_to(number, MOST_BYTES, |earlier| {
+            self.triple(history, volume, earlier)
+        })
     }
 
     fn triple(&mut self, history: &History, volume: &Volume, earlier: &[Triple]) -> Triple {
