@@ -158,7 +158,8 @@ fn write_all(
     }
 }
 
-// Whether the tests have to be made again before the writes of a list: they have where a block is shared. A single write asks for none.
+// Whether the tests have to be made again between the writes of a list: they have where a block is shared. Of one write nothing is looked at, as there is
+// no between.
 fn tests_again(head: &[u8], extents: &[u8], list: &[u8]) -> bool
     requires { ⌜ ExtentsPlaced (now head) (now extents) ⌝ }
     ensures { λ r. ⌜ (r ≡ false → Once (mappedBlocks (extentsCounted (now (head .entry)) (now (extents .entry))))) ⌝ }
