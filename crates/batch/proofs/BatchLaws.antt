@@ -1,7 +1,8 @@
 -- Laws of a batch of writes: the tests of its list, one write of it, and its writes one after another.
 -- Assumes nothing.
 use mathlib.Core.Path.{_≡_, refl, sym, ap, ap₂, subst, _∙_}
-use mathlib.Core.Bool.{Bool, true, false, not, _||_}
+use mathlib.Core.Logic.{inl, inr}
+use mathlib.Core.Bool.{Bool, true, false, not, _||_, false≢true}
 use mathlib.Core.List.{List, [], _∷_}
 use Prim.Native.Nat.{ℕ, suc, _+_, _-_, _*_, _/_, _%_, _≤_, _<_}
 use native.Mathlib.Omega.{arith}
@@ -14,7 +15,7 @@ use Rattle.rules.specs.Lists.{if_then_else_, all}
 use Rattle.rules.specs.Bytes.{Bytes}
 use Rattle.rules.specs.Time.{Time}
 use Rattle.rules.specs.Head.{Head, decodeHead}
-use Rattle.rules.specs.Extent.{extentBytes, decodeExtent}
+use Rattle.rules.specs.Extent.{Extent, extentBytes, decodeExtent}
 use Rattle.rules.specs.Book.{bookPlaces, decodeBook, decodeBooks}
 use Rattle.rules.specs.Store.{Store, StoreBytes, decode, decodeWith}
 use Rattle.rules.specs.Refusal.{Result, numberOf, result}
@@ -39,11 +40,12 @@ use Rattle.format.specs.Records.{headOf}
 use Rattle.book.proofs.SearchLaws.{record-at}
 use Rattle.intake.specs.Join.{storeNumber}
 use Rattle.intake.proofs.JoinLaws.{stopped}
+use Rattle.sharing.specs.Sharing.{TellsShared}
 use Rattle.triples.specs.declared.Triple as struct
 use Rattle.triples.specs.Triple.{tripleOf, tripleAt, triplesFrom}
-use Rattle.triples.proofs.TripleLaws.{length-triples, from-start, from-here, from-end}
+use Rattle.triples.proofs.TripleLaws.{length-triples, from-start, from-end, read-here, read-lengths}
 use Rattle.write.specs.Call.{StoreReady, answered}
-use Rattle.batch.specs.Batch.{Wrote, batchTried, extentsCounted, ExtentsPlaced}
+use Rattle.batch.specs.Batch.{Wrote, batchTried, extentsCounted, ExtentsPlaced, TellsAgain}
 
 -- ---- the list
 
@@ -134,18 +136,9 @@ module _ (list bytes : List ℕ) (seconds nanoseconds : ℕ) (shared : Bool) (st
 
   module _ (again : Bool) (i n place : ℕ) (s : Store) (q : n ≡ length list / tripleBytes) (h : Between again i place s) where
     module _ (t : struct.Triple) (l : i < n) (d : tripleOf t ≡ tripleAt list i) where
-      -- the triple, and those behind it
-      here : triplesFrom list i ≡ tripleOf t ∷ triplesFrom list (i + 1)
-      here = from-here list i (omega (arith, l, q)) ∙ ap (λ (u : Triple). u ∷ triplesFrom list (i + 1)) (sym d)
-
-      -- their lengths
-      lengths-here : lengthsOf (triplesFrom list i) ≡ t .len + lengthsOf (triplesFrom list (i + 1))
-      unfolding lengthsOf tripleOf
-      lengths-here = ap lengthsOf here
-
       -- the bytes of the write are there
       pub bytes-there : place + t .len ≤ length bytes
-      bytes-there = omega (arith, h .room, lengths-here)
+      bytes-there = omega (arith, h .room, read-lengths list i n q t l d)
 
       -- the write as a call
       abbrev next : Call
@@ -162,13 +155,13 @@ module _ (list bytes : List ℕ) (seconds nanoseconds : ℕ) (shared : Bool) (st
         pub between-stopped : (number ≡ 0 → ⊥) → answered number i left ≡ batchFrom (decodeTriples list) bytes time 0 start
         unfolding batchFrom call
         between-stopped z =
-            sym (sym (h .same) ∙ ap (λ (ts : List Triple). batchFrom ts (drop place bytes) time i s) here
+            sym (sym (h .same) ∙ ap (λ (ts : List Triple). batchFrom ts (drop place bytes) time i s) (read-here list i n q t l d)
             ∙ after-refused i s _ _ (λ e. z (done-is .0 ∙ e)) ∙ ap₂ (λ (k : ℕ) (x : Store). batchGives k i x) (sym (done-is .0)) (sym (done-is .1)))
 
         -- done: what held before it holds before the next
         pub between-more : Bytes list → Bytes bytes → WordTime time → number ≡ 0 → Between shared (i + 1) (place + t .len) left
         between-more b k m z = record {
-          room = omega (arith, h .room, lengths-here);
+          room = omega (arith, h .room, read-lengths list i n q t l d);
           lent-bytes = rw (done-is .1) (bytes-kept next s range (h .lent-bytes));
           tested = λ e. safe e .passes;
           safe = safe;
@@ -190,7 +183,7 @@ module _ (list bytes : List ℕ) (seconds nanoseconds : ℕ) (shared : Bool) (st
             goes =
                 let e : i + 1 ≡ suc i = omega arith in
                 let c : batchFrom (triplesFrom list i) (drop place bytes) time i s ≡ batchFrom (triplesFrom list (i + 1)) (drop (t .len) (drop place bytes)) time (suc i) (call next s .store) =
-                ap (λ (ts : List Triple). batchFrom ts (drop place bytes) time i s) here ∙ first in
+                ap (λ (ts : List Triple). batchFrom ts (drop place bytes) time i s) (read-here list i n q t l d) ∙ first in
                 rw (done-is .1, ← drop-drop (t .len) place bytes) (ap (λ (k : ℕ). batchFrom (triplesFrom list (i + 1)) (drop (t .len) (drop place bytes)) time k (call next s .store)) e ∙ sym c ∙ h .same)
               where
                 first : batchFrom (tripleOf t ∷ triplesFrom list (i + 1)) (drop place bytes) time i s ≡ batchFrom (triplesFrom list (i + 1)) (drop (t .len) (drop place bytes)) time (suc i) (call next s .store)
@@ -235,10 +228,16 @@ module _ (head extents : List ℕ) where
       )
 
   -- what was told of them
-  pub counted-once : (h : headStruct.Head) → headOf h ≡ decodeHead head → Once (mappedBlocks (decodeBook decodeExtent extentBytes (h .extents) extents)) → Once (mappedBlocks (extentsCounted head extents))
+  pub counted-tells : (list : List ℕ) (h : headStruct.Head) → headOf h ≡ decodeHead head → (r : Bool) → TellsShared r (decodeBook decodeExtent extentBytes (h .extents) extents) → TellsAgain r list (extentsCounted head extents)
   unfolding headOf
-  counted-once h d o = let e : h .extents ≡ decodeHead head .extents = ap (λ (x : Head). x .extents) d in
-      subst (λ (n : ℕ). Once (mappedBlocks (decodeBook decodeExtent extentBytes n extents))) e o
+  counted-tells list h d r o =
+      let e : h .extents ≡ decodeHead head .extents = ap (λ (x : Head). x .extents) d in
+      let k = subst (λ (n : ℕ). TellsShared r (decodeBook decodeExtent extentBytes n extents)) e o in
+      record { left-out = k .apart; made = λ t. inr (k .together t) }
+
+-- a list with no second write
+pub single-again : (list : List ℕ) (es : List Extent) → length list ≤ tripleBytes → TellsAgain true list es
+single-again list es l = record { left-out = λ e. absurd (false≢true (sym e)); made = λ e. inl l }
 
 -- ---- the batch
 

@@ -10,13 +10,11 @@ ghost use lib.ListN.{length};
 ghost use Rattle.rules.specs.Store.{lent, decode};
 ghost use Rattle.rules.specs.Triples.{tripleBytes, mostTriples, decodeTriples, lengthsOf};
 ghost use Rattle.rules.specs.Batch.{batchWrong, batchFrom};
-ghost use Rattle.rules.specs.Integrity.{mappedBlocks};
 ghost use Rattle.rules.proofs.PassLaws.{Passes};
-ghost use Rattle.rules.proofs.CountLaws.{Once};
 ghost use Rattle.history.proofs.UnsharedLaws.{Unshared};
 ghost use Rattle.intake.specs.Join.{storeNumber};
 ghost use Rattle.write.specs.Call.{StoreReady, answered};
-ghost use Rattle.batch.specs.Batch.{Wrote, batchTried, extentsCounted, ExtentsPlaced};
+ghost use Rattle.batch.specs.Batch.{Wrote, batchTried, extentsCounted, ExtentsPlaced, TellsAgain};
 use triples::TRIPLE_BYTES;
 use write::Done;
 use write::MOST_RUNS;
@@ -162,7 +160,7 @@ fn write_all(
 // no between.
 fn tests_again(head: &[u8], extents: &[u8], list: &[u8]) -> bool
     requires { ⌜ ExtentsPlaced (now head) (now extents) ⌝ }
-    ensures { λ r. ⌜ (r ≡ false → Once (mappedBlocks (extentsCounted (now (head .entry)) (now (extents .entry))))) ⌝ }
+    ensures { λ r. ⌜ TellsAgain r (now (list .entry)) (extentsCounted (now (head .entry)) (now (extents .entry))) ⌝ }
 {
     if list.len() <= TRIPLE_BYTES {
         return true;

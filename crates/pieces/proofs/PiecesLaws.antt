@@ -23,7 +23,7 @@ use Rattle.mapping.proofs.EntryLaws.{entries-part, mapped-inside}
 use Rattle.image.specs.Blocks.{blocksBytes}
 use Rattle.triples.specs.declared.Triple as struct
 use Rattle.triples.specs.Triple.{tripleOf, tripleAt, triplesFrom}
-use Rattle.triples.proofs.TripleLaws.{from-start, from-here, from-end}
+use Rattle.triples.proofs.TripleLaws.{from-start, from-end, read-here, read-lengths}
 use Rattle.pieces.specs.InHand.{mostUnits, InHand, startsWith}
 use Rattle.pieces.specs.Pieces.{unitBytesOf, pieceOf, piecesOf}
 
@@ -131,18 +131,9 @@ module _ (image extents : List ℕ) (e : ℕ) (list sizes start : List ℕ) wher
 
   module _ (i n place : ℕ) (out : List ℕ) (q : n ≡ length list / tripleBytes) (h : Handed i place out) where
     module _ (t : struct.Triple) (l : i < n) (d : tripleOf t ≡ tripleAt list i) where
-      -- the triple, and those behind it
-      here : triplesFrom list i ≡ tripleOf t ∷ triplesFrom list (i + 1)
-      here = from-here list i (omega (arith, l, q)) ∙ ap (λ (u : Triple). u ∷ triplesFrom list (i + 1)) (sym d)
-
-      -- their lengths
-      lengths-here : lengthsOf (triplesFrom list i) ≡ t .len + lengthsOf (triplesFrom list (i + 1))
-      unfolding lengthsOf tripleOf
-      lengths-here = ap lengthsOf here
-
       -- the next piece has room
       pub handed-room : place + t .len ≤ length out
-      handed-room = omega (arith, h .room, lengths-here)
+      handed-room = omega (arith, h .room, read-lengths list i n q t l d)
 
       -- it is as long as the triple says
       piece-length : length (take (place + t .len - place) (drop place out)) ≡ t .len
@@ -167,14 +158,14 @@ module _ (image extents : List ℕ) (e : ℕ) (list sizes start : List ℕ) wher
           sym (drop-drop (t .len) place (take place out ++ (piece ++ rest))) ∙ ap (drop (t .len)) (drop-at (take place out) (piece ++ rest) place v) ∙ drop-at piece rest (t .len) w in
           let g : getD (drop i sizes) 0 0 ≡ getD sizes i 0 = getD-drop i sizes 0 0 ∙ ap (λ (x : ℕ). getD sizes x 0) (let y : i + 0 ≡ i = omega arith in y) in
           let f : piecesOf image extents e (triplesFrom list i) (drop i sizes) (drop place out) ≡ piece ++ piecesOf image extents e (triplesFrom list (i + 1)) (drop (i + 1) sizes) rest =
-          ap (λ (ts : List Triple). piecesOf image extents e ts (drop i sizes) (drop place out)) here
+          ap (λ (ts : List Triple). piecesOf image extents e ts (drop i sizes) (drop place out)) (read-here list i n q t l d)
           ∙ rw (g, ← s, drop-drop 1 i sizes, z) refl in
           record {
             pieces =
                 h .pieces ∙ ap (λ (xs : List ℕ). take place out ++ xs) f
                 ∙ sym (append-assoc (take place out) piece (piecesOf image extents e (triplesFrom list (i + 1)) (drop (i + 1) sizes) rest))
                 ∙ rw (a, b) refl;
-            room = omega (arith, h .room, lengths-here, same-len-mid place (place + t .len - place) out piece k);
+            room = omega (arith, h .room, read-lengths list i n q t l d, same-len-mid place (place + t .len - place) out piece k);
             long = same-len-mid place (place + t .len - place) out piece k ∙ h .long;
           }
 

@@ -19,7 +19,7 @@ use Rattle.format.specs.declared.head.Head as headStruct
 use Rattle.format.specs.Records.{headOf}
 use Rattle.book.proofs.SearchLaws.{record-at}
 use Rattle.triples.specs.Triple.{tripleAt, triplesFrom}
-use Rattle.triples.proofs.TripleLaws.{length-triples, from-start, from-here, from-end}
+use Rattle.triples.proofs.TripleLaws.{length-triples, from-start, from-here, from-end, lengths-here}
 use Rattle.read.specs.Range.{Readable}
 use Rattle.read.specs.Gives.{Gives, gives, givesRead}
 use Rattle.read_checks.specs.Reads.{Looked, firstNumber, readNumber, pairsTouched, SizeIs}
@@ -78,7 +78,7 @@ module _ (b : Looked) (cards list sizes : List ℕ) (d : Readable (b .image) (b 
       nothing = unfold piecesOf handedAll in refl
   pieces-from (suc n) i e out l =
       let t : Triple = tripleAt list i in
-      let m : lengthsOf (triplesFrom list i) ≡ t .len + lengthsOf (triplesFrom list (i + 1)) = lengths-here i (omega (arith, e)) in
+      let m : lengthsOf (triplesFrom list i) ≡ t .len + lengthsOf (triplesFrom list (i + 1)) = lengths-here list i (omega (arith, e)) in
       let w : length (take (t .len) out) ≡ t .len = length-take-le (t .len) out (omega (arith, l, m)) in
       let k : i + 0 ≡ i = omega arith in
       let z : getD (drop i sizes) 0 0 ≡ getD sizes i 0 = getD-drop i sizes 0 0 ∙ ap (λ (j : ℕ). getD sizes j 0) k in
@@ -89,12 +89,6 @@ module _ (b : Looked) (cards list sizes : List ℕ) (d : Readable (b .image) (b 
       rw (from-here list i (omega (arith, e)))
       (pieces-step t (triplesFrom list (i + 1)) (drop i sizes) out (getD sizes i 0) z
       (read-out b t (take (t .len) out) w cards (getD sizes i 0) (noted i (omega (arith, e))) (right i (omega (arith, e))) d) h)
-    where
-      lengths-here : (i : ℕ) → i < length list / tripleBytes → lengthsOf (triplesFrom list i) ≡ tripleAt list i .len + lengthsOf (triplesFrom list (i + 1))
-      lengths-here i l = ap lengthsOf (from-here list i l) ∙ more (tripleAt list i) (triplesFrom list (i + 1))
-        where
-          more : (t : Triple) (ts : List Triple) → lengthsOf (t ∷ ts) ≡ t .len + lengthsOf ts
-          more t ts = unfold lengthsOf in refl
 
   -- all pieces are
   pub pieces-all : (out : List ℕ) → lengthsOf (decodeTriples list) ≤ length out

@@ -71,6 +71,21 @@ module _ (list : List ℕ) where
   unfolding triplesFrom
   from-end i l = drop-of-length-le (decodeTriples list) {i = i} (rw length-triples l)
 
+  -- the lengths from a place on
+  pub lengths-here : (i : ℕ) → i < length list / tripleBytes → lengthsOf (triplesFrom list i) ≡ tripleAt list i .len + lengthsOf (triplesFrom list (i + 1))
+  unfolding lengthsOf
+  lengths-here i l = ap lengthsOf (from-here i l)
+
+  module _ (i n : ℕ) (e : n ≡ length list / tripleBytes) (t : struct.Triple) (l : i < n) (d : tripleOf t ≡ tripleAt list i) where
+    -- a triple that was read at the place, and those behind it
+    pub read-here : triplesFrom list i ≡ tripleOf t ∷ triplesFrom list (i + 1)
+    read-here = from-here i (omega (arith, l, e)) ∙ ap (λ (u : Triple). u ∷ triplesFrom list (i + 1)) (sym d)
+
+    -- their lengths
+    pub read-lengths : lengthsOf (triplesFrom list i) ≡ t .len + lengthsOf (triplesFrom list (i + 1))
+    unfolding lengthsOf tripleOf
+    read-lengths = ap lengthsOf read-here
+
   -- ---- a length
 
   -- no length before a place exceeds what one write takes: so one does exactly where one from there on does
@@ -85,9 +100,7 @@ module _ (list : List ℕ) where
     -- the length at the place, and those behind it
     over-here : (t : struct.Triple) → i < n → tripleOf t ≡ tripleAt list i → lengthOver (decodeTriples list) ≡ (ltb mostTransfer (t .len) || lengthOver (triplesFrom list (i + 1)))
     unfolding tripleOf lengthOver any
-    over-here t l q =
-        let y : tripleAt list i .len ≡ t .len = ap (λ (u : Triple). u .len) (sym q) in
-        h ∙ ap lengthOver (from-here i (omega (arith, l, e))) ∙ ap (λ (k : ℕ). ltb mostTransfer k || lengthOver (triplesFrom list (i + 1))) y
+    over-here t l q = h ∙ ap lengthOver (read-here i n e t l q)
 
     -- it exceeds
     pub over-found : (t : struct.Triple) → i < n → tripleOf t ≡ tripleAt list i → mostTransfer < t .len → true ≡ lengthOver (decodeTriples list)
@@ -108,27 +121,15 @@ module _ (list : List ℕ) where
   abbrev pub LeftOf : (room left i : ℕ) → Type 0
   LeftOf room left i = left + lengthsOf (decodeTriples list) ≡ room + lengthsOf (triplesFrom list i)
 
-  -- the lengths from a place on
-  lengths-here : (i : ℕ) → i < length list / tripleBytes → lengthsOf (triplesFrom list i) ≡ tripleAt list i .len + lengthsOf (triplesFrom list (i + 1))
-  unfolding lengthsOf
-  lengths-here i l = ap lengthsOf (from-here i l)
-
   module _ (room : ℕ) where
     -- at the start
     pub left-start : LeftOf room room 0
     left-start = ap (λ (ts : List Triple). room + lengthsOf ts) (sym from-start)
 
     module _ (left i n : ℕ) (e : n ≡ length list / tripleBytes) (h : LeftOf room left i) where
-      -- the length at the place, and those behind it
-      left-here : (t : struct.Triple) → i < n → tripleOf t ≡ tripleAt list i → lengthsOf (triplesFrom list i) ≡ t .len + lengthsOf (triplesFrom list (i + 1))
-      unfolding tripleOf
-      left-here t l q =
-          let y : t .len ≡ tripleAt list i .len = ap (λ (u : Triple). u .len) q in
-          lengths-here i (omega (arith, l, e)) ∙ ap (λ (k : ℕ). k + lengthsOf (triplesFrom list (i + 1))) (sym y)
-
-      -- it exceeds what is left
+      -- the length at the place exceeds what is left
       past-room : (t : struct.Triple) → i < n → tripleOf t ≡ tripleAt list i → left < t .len → room < lengthsOf (decodeTriples list)
-      past-room t l q x = omega (arith, h, left-here t l q, x)
+      past-room t l q x = omega (arith, h, read-lengths i n e t l q, x)
 
       -- so the lengths exceed the room
       pub left-short : (t : struct.Triple) → i < n → tripleOf t ≡ tripleAt list i → left < t .len → true ≡ ltb room (lengthsOf (decodeTriples list))
@@ -140,7 +141,7 @@ module _ (list : List ℕ) where
 
       -- it does not exceed it
       pub left-more : (t : struct.Triple) → i < n → tripleOf t ≡ tripleAt list i → t .len ≤ left → LeftOf room (left - t .len) (i + 1)
-      left-more t l q x = omega (arith, h, left-here t l q, x)
+      left-more t l q x = omega (arith, h, read-lengths i n e t l q, x)
 
       -- no length is behind
       none-behind : n ≤ i → left + lengthsOf (decodeTriples list) ≡ room

@@ -17,7 +17,7 @@ tests-again-requires c κs = extents-placed _ (c .before .before .before .before
 
 write-all-requires : tie.Need-write-all-requires
 write-all-requires c κs = let w = sym (c .before .before .before .before .before .before .before .before .before .before .before .batch-wrong .ensures) ∙ c .before .before .before .before .before .before .before .before .before .before .if1 .left in
-    (c .before .before .before .before .before .before .before .before .before .before .before .before .before .before .before .before .before .before .before .before .before .pre, (λ e. unshared-all _ (c .before .before .before .before .before .before .before .before .before .before .before .before .before .before .before .before .before .before .before .before .before .pre) (c .before .before .before .before .before .before .before .tests-again .ensures e), (lengths-add _ _ w, list-short _ _ w)))
+    (c .before .before .before .before .before .before .before .before .before .before .before .before .before .before .before .before .before .before .before .before .before .pre, (λ e. unshared-all _ (c .before .before .before .before .before .before .before .before .before .before .before .before .before .before .before .before .before .before .before .before .before .pre) (c .before .before .before .before .before .before .before .tests-again .ensures .left-out e), (lengths-add _ _ w, list-short _ _ w)))
 
 same-length : tie.Need-same-length
 same-length c = search needs
