@@ -16,14 +16,14 @@ use Rattle.rules.specs.Lists.{if_then_else_, maybe, given, find, count, member,
 use Rattle.rules.specs.Sizes.{blockBytes, unitBytes}
 use Rattle.rules.specs.Card.{Card}
 use Rattle.rules.specs.Extent.{Extent, extentEnd, mapping}
-use Rattle.rules.specs.Store.{Volume, cardOf}
+use Rattle.rules.specs.Store.{Volume, cardOf, createdOf}
 use Rattle.rules.specs.Integrity.{inFile, inFiles}
 use Rattle.rules.specs.Units.{Change, touches, validLength}
 use Rattle.rules.specs.Inspect.{checksumOf, inspectUnit}
 use Rattle.rules.specs.Inspect.Inspected.{hole, checked}
 use Rattle.rules.specs.Rewrite.{Progress, Rewritten}
 use Rattle.rules.specs.Finish.{newBlocks, supersededBlocks, finishedCards, finishedExtents, finished}
-use Rattle.rules.specs.Plain.{File, change, fileBytes}
+use Rattle.rules.specs.Plain.{File, change, fileBytes, fileCreated}
 use Rattle.rules.specs.Demand.{Place, placesOf, places, filePlaces}
 use Rattle.rules.proofs.ListLaws.{test-cases, if-true, if-false, if-cases, maybe-some, maybe-none, and-left, and-right, any-index, find-passes, Each, each-any, each-at, each-all, each-weaken}
 use Rattle.rules.proofs.CountLaws.{count-each}
@@ -31,7 +31,7 @@ use Rattle.history.proofs.ReadLaws.{UnitIs, is-hole, is-checked, FileIs
 use Rattle.history.proofs.Invariant.{Past, FilesAgree, BlocksAgree}
 use Rattle.history.proofs.MappingLaws.{mapping-none}
 use Rattle.history.proofs.BackedLaws.{none-unbacked}
-use Rattle.history.proofs.CardsAfter.{card-of-object, cardAfter, cards-are, size-mine, object-mine, allocated-mine, card-theirs, found-after, none-after}
+use Rattle.history.proofs.CardsAfter.{card-of-object, cardAfter, cards-are, size-mine, object-mine, allocated-mine, created-after, card-theirs, find-after, found-after, none-after}
 use Rattle.history.proofs.UnitLaws.{hole-means, makes-hole, inspect-valid, inspect-unit-same}
 use Rattle.history.proofs.ChangeLaws.{untouched-part, untouched-zeros}
 use Rattle.history.proofs.PlanLaws.{StaysHole, unitPart}
@@ -40,24 +40,34 @@ use Rattle.history.proofs.BalanceLaws.{balance, balance-other}
 use Rattle.history.proofs.AfterUnits.{Carrying, Filling, apart-old, unit-stays, unit-new}
 use Rattle.history.proofs.BlocksAfter.{holders-after}
 use Rattle.history.proofs.VolumeAfter.{CallRight, only-card}
-use Rattle.history.proofs.MoreLists.{count-all, each-mem, find-through, mem-through}
+use Rattle.history.proofs.MoreLists.{count-all, each-mem, find-through, seen-through, mem-through}
 
 -- ---- plain arrays
 
 module _ (object : ℕ) (f : List ℕ → List ℕ) where
   -- an array after the change
   unfoldable fileAfter : File → File
-  fileAfter a = if eqb (a .object) object then record { object = a .object; bytes = f (a .bytes) } else a
+  fileAfter a = if eqb (a .object) object then record { object = a .object; created = a .created; bytes = f (a .bytes) } else a
 
   -- an array's object stays
   same-object : (a : File) → fileAfter a .object ≡ a .object
   unfolding fileAfter
   same-object a = if-cases (λ (x : File). x .object ≡ a .object) (eqb (a .object) object) _ a (λ e. refl) (λ e. refl)
 
+  -- when it was made stays
+  same-created : (a : File) → fileAfter a .created ≡ a .created
+  unfolding fileAfter
+  same-created a = if-cases (λ (x : File). x .created ≡ a .created) (eqb (a .object) object) _ a (λ e. refl) (λ e. refl)
+
   -- what is found is what was, put through
   find-changed : (o : ℕ) (files : List File) → find (λ a. eqb (a .object) o) (change object f files) ≡ maybe none (λ a. some (fileAfter a)) (find (λ a. eqb (a .object) o) files)
   unfolding change fileAfter
   find-changed o files = find-through (λ a. eqb (a .object) o) fileAfter (λ a. ap (λ (n : ℕ). eqb n o) (same-object a)) files
+
+  -- no array is made at another time
+  pub made-same : (o : ℕ) (files : List File) → fileCreated (change object f files) o ≡ fileCreated files o
+  unfolding fileCreated
+  made-same o files = ap (maybe none (λ a. some (a .created))) (find-changed o files) ∙ seen-through fileAfter (λ a. a .created) same-created (find (λ a. eqb (a .object) o) files)
 
   -- the array of the object is put through
   pub bytes-mine : (files : List File) (xs : List ℕ) → fileBytes files object ≡ some xs → fileBytes (change object f files) object ≡ some (f xs)
@@ -238,6 +248,13 @@ module _ {v : Volume} {c : Change} {xs ys : List ℕ} {us : List ℕ} {p : Progr
   pub blocks-after : {reserved : ℕ} → BlocksAgree reserved v → BlocksAgree reserved w
   blocks-after {reserved} a = record { given = unfold finished in a .given; onePlace = λ b l. holders-after d time q reserved b (a .onePlace b (unfold finished in l)) }
 
+  -- no card is made at another time
+  card-created : (o : ℕ) → createdOf w o ≡ createdOf v o
+  unfolding createdOf cardOf finished
+  card-created o =
+      ap (maybe none (λ x. some (x .created))) (find-after c (q .allocated) time o (v .books .cards))
+      ∙ seen-through moved (λ x. x .created) (created-after c (q .allocated) time) (find (λ x. eqb (x .object) o) (v .books .cards))
+
   -- and what is said of the files
   pub files-after : (files : List File) (f : List ℕ → List ℕ) → f xs ≡ ys → fileBytes files (c .object) ≡ some xs → FilesAgree files v → FilesAgree (change (c .object) f files) w
   files-after files f y known a = record {
@@ -245,6 +262,7 @@ module _ {v : Volume} {c : Change} {xs ys : List ℕ} {us : List ℕ} {p : Progr
     bytes = λ o zs h. bytes o zs h (ℕ-discrete o (c .object));
     slots = λ o u h. slots o u h (ℕ-discrete o (c .object));
     counts = counts-after (a .counts);
+    created = λ o. card-created o ∙ a .created o ∙ sym (made-same (c .object) f o files);
   }
     where
       new : fileBytes (change (c .object) f files) (c .object) ≡ some ys

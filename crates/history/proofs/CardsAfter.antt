@@ -6,7 +6,7 @@ use mathlib.Core.Bool.{true, _&&_}
 use mathlib.Core.Option.{none, some, Option·some-injective}
 use Prim.Native.Nat.{ℕ, _^_, _≤_, _<_}
 use native.Mathlib.Omega.{arith}
-use lib.Dec.{eqb, leb}
+use lib.Dec.{eqb, leb, ltb}
 use lib.ListN.{length, length-map}
 use borrow.Author.Tests.{eqb-true, eqb-false, eq-eqb, ne-eqb, ltb-true, lt-ltb, leb-true, le-leb}
 use Rattle.rules.specs.Time.{Time}
@@ -70,6 +70,11 @@ module _ (c : Change) (allocated : ℕ) (time : Time) where
   unfolding changedCard
   allocated-mine d e = ap (λ (x : Card). x .allocated) (card-mine d e)
 
+  -- a card's creation time stays
+  pub created-after : (d : Card) → cardAfter d .created ≡ d .created
+  unfolding cardAfter changedCard
+  created-after d = if-cases (λ (x : Card). x .created ≡ d .created) (eqb (d .object) (c .object)) _ d (λ e. refl) (λ e. refl)
+
   -- a card of another file stays
   pub card-theirs : (d : Card) → (d .object ≡ c .object → ⊥) → cardAfter d ≡ d
   unfolding cardAfter
@@ -81,7 +86,7 @@ module _ (c : Change) (allocated : ℕ) (time : Time) where
   object-after d = if-cases (λ (x : Card). x .object ≡ d .object) (eqb (d .object) (c .object)) _ d (λ e. refl) (λ e. refl)
 
   -- what is found is what was, put through
-  find-after : (object : ℕ) (cs : List Card) → find (λ d. eqb (d .object) object) (finishedCards c allocated time cs) ≡ maybe none (λ d. some (cardAfter d)) (find (λ d. eqb (d .object) object) cs)
+  pub find-after : (object : ℕ) (cs : List Card) → find (λ d. eqb (d .object) object) (finishedCards c allocated time cs) ≡ maybe none (λ d. some (cardAfter d)) (find (λ d. eqb (d .object) object) cs)
   find-after object cs = ap (find (λ d. eqb (d .object) object)) (cards-are cs) ∙ find-through (λ d. eqb (d .object) object) cardAfter (λ d. ap (λ (n : ℕ). eqb n object) (object-after d)) cs
 
   -- a card that was found is found so
@@ -108,7 +113,10 @@ module _ (c : Change) (allocated : ℕ) (time : Time) where
     where
       one : (d : Card) → cardTimesRight d ≡ true → cardTimesRight (cardAfter d) ≡ true
       one d t = unfold cardAfter in if-cases (λ (x : Card). cardTimesRight x ≡ true) (eqb (d .object) (c .object)) _ d
-          (λ e. unfold cardTimesRight changedCard in lt-ltb (time .nanoseconds) nanosecondsBound l) (λ e. t)
+          (λ e. unfold cardTimesRight changedCard in and-intro (ltb (time .nanoseconds) nanosecondsBound) (ltb (d .created .nanoseconds) nanosecondsBound)
+          (lt-ltb (time .nanoseconds) nanosecondsBound l)
+          (and-right (ltb (d .changed .nanoseconds) nanosecondsBound) (ltb (d .created .nanoseconds) nanosecondsBound) (unfold cardTimesRight in t)))
+          (λ e. t)
 
   -- its numbers in range
   pub cards-fit : c .newSize < 2 ^ 63 → allocated < 2 ^ 35 → time .seconds < 2 ^ 63 → time .nanoseconds < 2 ^ 30 → (cs : List Card) → Each CardFits cs
@@ -116,7 +124,7 @@ module _ (c : Change) (allocated : ℕ) (time : Time) where
   cards-fit z a s n cs h = rw (cards-are cs) (each-map cardAfter (each-weaken one h))
     where
       one : (d : Card) → CardFits d → CardFits (cardAfter d)
-      one d f = unfold cardAfter in if-cases CardFits (eqb (d .object) (c .object)) _ d (λ e. unfold changedCard in record { object = f .object; size = z; allocated = a; seconds = s; nanoseconds = n }) (λ e. f)
+      one d f = unfold cardAfter in if-cases CardFits (eqb (d .object) (c .object)) _ d (λ e. unfold changedCard in record { object = f .object; size = z; allocated = a; changed = record { seconds = s; nanoseconds = n }; created = f .created }) (λ e. f)
 
   -- an extent stays in its file, which is not shorter
   pub file-stays : {cs : List Card} → Each (λ d. d .object ≡ c .object → d .size ≤ c .newSize) cs → (e : Extent) → inFile cs e ≡ true → inFile (finishedCards c allocated time cs) e ≡ true

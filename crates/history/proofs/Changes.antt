@@ -29,7 +29,7 @@ use Rattle.rules.specs.Rewrite.Plan.{refused, planned}
 use Rattle.rules.specs.Finish.{finished}
 use Rattle.rules.specs.Call.{InRange, call}
 use Rattle.rules.specs.Call.Call.{write, grow}
-use Rattle.rules.specs.Plain.{File, change, overwrite, accepted, fileBytes}
+use Rattle.rules.specs.Plain.{File, change, overwrite, accepted, fileBytes, fileCreated}
 use Rattle.rules.specs.Demand.{Place, placesOf, places, filePlaces, neverNumbers}
 use Rattle.rules.proofs.ListLaws.{if-true, if-false, and-left, find-mem, each-weaken}
 use Rattle.rules.proofs.CountLaws.{count-weaken}
@@ -50,7 +50,7 @@ use Rattle.history.proofs.AfterUnits.{Carrying, Filling}
 use Rattle.history.proofs.CardsAfter.{card-of-object}
 use Rattle.history.proofs.VolumeAfter.{CallRight}
 use Rattle.history.proofs.UnsharedLaws.{whole-image, few-blocks, card-in, known-own, FileChange, change-of-write, foundFirst, change-carrying, change-right, change-says}
-use Rattle.history.proofs.AgreesAfter.{bytes-mine, bytes-theirs, files-after, blocks-after}
+use Rattle.history.proofs.AgreesAfter.{made-same, bytes-mine, bytes-theirs, files-after, blocks-after}
 use Rattle.history.proofs.MoreLists.{count-all, once-ascending}
 use Rattle.history.proofs.MoreBytes.{padded-whole}
 
@@ -203,14 +203,15 @@ module _ (files : List File) (reserved : ℕ) (s : Store) (b : StoreBytes s) (h 
   grow-none size e n (no q) = bytes-theirs object (padded size) files n q
 
 -- only what the plain arrays say counts
-inv-same : (files news : List File) (reserved : ℕ) (s : Store) → ((o : ℕ) → fileBytes news o ≡ fileBytes files o) → Inv files reserved s → Inv news reserved s
-inv-same files news reserved s e h = record {
+inv-same : (files news : List File) (reserved : ℕ) (s : Store) → ((o : ℕ) → fileBytes news o ≡ fileBytes files o) → ((o : ℕ) → fileCreated news o ≡ fileCreated files o) → Inv files reserved s → Inv news reserved s
+inv-same files news reserved s e m h = record {
   passes = h .passes;
   filesAgree = record {
     objects = λ o. ap given (e o) ∙ h .filesAgree .objects o;
     bytes = λ o xs k. h .filesAgree .bytes o xs (sym (e o) ∙ k);
     slots = h .filesAgree .slots;
     counts = h .filesAgree .counts;
+    created = λ o. h .filesAgree .created o ∙ sym (m o);
   };
   blocksAgree = h .blocksAgree;
 }
@@ -249,7 +250,7 @@ grow-keeps object size time files reserved s i b e h = go (r .done)
     r = grow-accepted object size time s e
 
     go : ((size ≡ r .card .size) × (o ≡ accept 0 s [])) ⊎ Grown size time s (r .card) o → Inv (change object (padded size) files) reserved (result s [] o .store)
-    go (inl z) = rw (z .1) (unfold result in inv-same files (change object (padded size) files) reserved s (λ n. grow-none files reserved s b h object (r .card) (r .known) size (z .0) n (ℕ-discrete n object)) h)
+    go (inl z) = rw (z .1) (unfold result in inv-same files (change object (padded size) files) reserved s (λ n. grow-none files reserved s b h object (r .card) (r .known) size (z .0) n (ℕ-discrete n object)) (λ n. made-same object (padded size) n files) h)
     go (inr w) = grow-done files reserved s b h object (r .card) (r .known) size time o (unfold call in bytes-kept (grow object size time) s i b) w
 
 -- both, as `Invariant` asks for them

@@ -18,7 +18,7 @@ use Rattle.rules.specs.Time.{Time}
 use Rattle.rules.specs.Lists.{maybe, given, any, find, filter, count, member}
 use Rattle.rules.specs.Sizes.{unitBytes, mostRuns}
 use Rattle.rules.specs.Card.{Card}
-use Rattle.rules.specs.Store.{Store, StoreBytes, Volume, decode, cardOf}
+use Rattle.rules.specs.Store.{Store, StoreBytes, Volume, decode, cardOf, createdOf}
 use Rattle.rules.specs.Inspect.{checksumOf}
 use Rattle.rules.specs.Fresh.{freshVolume}
 use Rattle.rules.specs.Enter.{newCard, entered}
@@ -28,7 +28,7 @@ use Rattle.rules.specs.Call.Look.{read, readMany, fill}
 use Rattle.rules.specs.Call.Call.{fresh, enter, write, grow, settle, look}
 use Rattle.rules.specs.Act.{Act, ActInRange, act, actRefused, partsDone}
 use Rattle.rules.specs.Act.Act.{whole, batch}
-use Rattle.rules.specs.Plain.{File, accepted, actStep, fileBytes}
+use Rattle.rules.specs.Plain.{File, accepted, actStep, fileBytes, fileCreated}
 use Rattle.rules.specs.Demand.{givenReserved, actReserved, placesOf, places, holders, filePlaces, neverNumbers, Sound, Demand3}
 use Rattle.rules.proofs.ListLaws.{given-some, maybe-some, find-yes, find-no, find-none}
 use Rattle.rules.proofs.PassLaws.{Passes, Lawful, Says, lawful-decode, room-decode}
@@ -56,6 +56,8 @@ pub record FilesAgree (files : List File) (v : Volume) : Type 0 where
   pub slots : (object unit : ℕ) → Past v object unit → checksumOf v object unit ≡ none
   -- each card counts the places of its file
   pub counts : (c : Card) → List·Memᴰ c (v .books .cards) → c .allocated ≡ filePlaces v (c .object)
+  -- and says when its file was made
+  pub created : (object : ℕ) → createdOf v object ≡ fileCreated files object
 
 -- the head's reserved is the number given to the last accepted fresh, and every block is in one place
 pub record BlocksAgree (reserved : ℕ) (v : Volume) : Type 0 where
@@ -64,16 +66,39 @@ pub record BlocksAgree (reserved : ℕ) (v : Volume) : Type 0 where
 
 -- ---- one object
 
--- a plain array's bytes where it is the first
+-- what is asked of a plain array
+module _ {A : Type 0} (ask : File → A) (f : File) (files : List File) where
+  -- where it is the first
+  told-new : maybe none (λ a. some (ask a)) (find (λ a. eqb (a .object) (f .object)) (f ∷ files)) ≡ some (ask f)
+  told-new = maybe-some none (λ a. some (ask a)) (find (λ a. eqb (a .object) (f .object)) (f ∷ files)) f (find-yes (λ a. eqb (a .object) (f .object)) f files (eq-eqb (f .object) (f .object) refl))
+
+  -- and of another object
+  told-other : (object : ℕ) → (f .object ≡ object → ⊥)
+      → maybe none (λ a. some (ask a)) (find (λ a. eqb (a .object) object) (f ∷ files)) ≡ maybe none (λ a. some (ask a)) (find (λ a. eqb (a .object) object) files)
+  told-other object d = ap (maybe none (λ a. some (ask a))) (find-no (λ a. eqb (a .object) object) f files (ne-eqb (f .object) object d))
+
+-- its bytes
 file-new : (f : File) (files : List File) → fileBytes (f ∷ files) (f .object) ≡ some (f .bytes)
 unfolding fileBytes
-file-new f files =
-    maybe-some none (λ a. some (a .bytes)) (find (λ a. eqb (a .object) (f .object)) (f ∷ files)) f (find-yes (λ a. eqb (a .object) (f .object)) f files (eq-eqb (f .object) (f .object) refl))
+file-new = told-new (λ a. a .bytes)
 
--- and of another object
 file-other : (f : File) (files : List File) (object : ℕ) → (f .object ≡ object → ⊥) → fileBytes (f ∷ files) object ≡ fileBytes files object
 unfolding fileBytes
-file-other f files object d = ap (maybe none (λ a. some (a .bytes))) (find-no (λ a. eqb (a .object) object) f files (ne-eqb (f .object) object d))
+file-other = told-other (λ a. a .bytes)
+
+-- when it was made
+created-new : (f : File) (files : List File) → fileCreated (f ∷ files) (f .object) ≡ some (f .created)
+unfolding fileCreated
+created-new = told-new (λ a. a .created)
+
+created-other : (f : File) (files : List File) (object : ℕ) → (f .object ≡ object → ⊥) → fileCreated (f ∷ files) object ≡ fileCreated files object
+unfolding fileCreated
+created-other = told-other (λ a. a .created)
+
+-- where the card stays
+created-same : (w v : Volume) (object : ℕ) → cardOf w object ≡ cardOf v object → createdOf w object ≡ createdOf v object
+unfolding createdOf
+created-same w v object e = ap (maybe none (λ c. some (c .created))) e
 
 -- an object whose card and whose units stay says the same
 object-same : (w v : Volume) → SameFiles w v → (object : ℕ) → cardOf w object ≡ cardOf v object → (xs : List ℕ) → ObjectIs v object xs → ObjectIs w object xs
@@ -95,6 +120,7 @@ files-same files w v u b m a = record {
   bytes = λ object xs e. object-same w v same object (card object) xs (a .bytes object xs e);
   slots = λ object unit p. slot-same w v same object unit ∙ a .slots object unit (λ c q. p c (card object ∙ q));
   counts = λ c i. a .counts c (subst (λ (k : Books). List·Memᴰ c (k .cards)) b i) ∙ sym (unfold filePlaces places in ap (λ (k : Books). count (λ p. eqb (p .object) (c .object)) (flatMap placesOf (k .extents))) b);
+  created = λ object. created-same w v object (card object) ∙ a .created object;
 }
   where
     same : SameFiles w v
@@ -107,12 +133,13 @@ files-same files w v u b m a = record {
 
 -- a fresh volume says what no plain array does
 fresh-files : (uuid : List ℕ) (reserved : ℕ) (s : Store) → FilesAgree [] (freshVolume uuid reserved s)
-unfolding fileBytes find filter maybe given cardOf checksumOf freshVolume
+unfolding fileBytes fileCreated find filter maybe given cardOf createdOf checksumOf freshVolume
 fresh-files uuid reserved s = record {
   objects = λ object. refl;
   bytes = λ object xs e. absurd (Option·none-ne-some xs e);
   slots = λ object unit p. refl;
   counts = λ c m. absurd (List·Memᴰ·not-nil m);
+  created = λ object. refl;
 }
 
 -- and each of its blocks is in one place
@@ -138,7 +165,7 @@ settled-blocks reserved v l a = record {
 module _ (files : List File) (c : Card) (v : Volume) (n : NoCard v (c .object)) where
   -- the new object's plain array
   newFile : File
-  newFile = record { object = c .object; bytes = [] }
+  newFile = record { object = c .object; created = c .created; bytes = [] }
 
   -- the object is the new one or another
   either-object : (P : Type 0) (object : ℕ) → (c .object ≡ object → P) → ((c .object ≡ object → ⊥) → P) → P
@@ -173,6 +200,9 @@ module _ (files : List File) (c : Card) (v : Volume) (n : NoCard v (c .object)) 
         (λ k q. either-object (k .size ≤ unit * unitBytes) object
         (λ e. absurd (no-card-before k (rw (← e) at q))) (λ d. p k (card-other c v object d ∙ q)));
     counts = counts-entered c v n y l (a .counts);
+    created = λ object. either-object (createdOf (entered c v) object ≡ fileCreated (newFile ∷ files) object) object
+        (λ e. unfold createdOf maybe in (rw (← e, created-new newFile files, card-entered c v n) refl))
+        (λ d. created-same (entered c v) v object (card-other c v object d) ∙ a .created object ∙ sym (created-other newFile files object d));
   }
 
 -- the blocks stay
@@ -202,7 +232,7 @@ inv-fresh s b uuid reserved i e =
 
 -- enter keeps it
 pub inv-enter : (object : ℕ) (time : Time) (files : List File) (reserved : ℕ) (s : Store) → InRange (enter object time) → StoreBytes s
-    → call (enter object time) s .number ≡ 0 → Inv files reserved s → Inv (record { object = object; bytes = [] } ∷ files) reserved (call (enter object time) s .store)
+    → call (enter object time) s .number ≡ 0 → Inv files reserved s → Inv (record { object = object; created = time; bytes = [] } ∷ files) reserved (call (enter object time) s .store)
 unfolding newCard newFile
 inv-enter object time files reserved s i b e h =
     let c : Card = newCard object time in
@@ -297,6 +327,7 @@ module _ (w : ChangesRight) where
     readsMany = λ list out i e. many-plain files s (all-known files reserved s h) (h .passes) list out e;
     onePlace = λ b l. h .blocksAgree .onePlace b (rw (room-decode s (h .passes) .blocks) l);
     counts = h .filesAgree .counts;
+    created = h .filesAgree .created;
     never = never-stopped files reserved s b h;
   }
 

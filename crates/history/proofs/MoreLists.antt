@@ -3,7 +3,7 @@
 use mathlib.Core.Path.{_≡_, refl, sym, ap, _∙_}
 use mathlib.Core.List.{List, [], _∷_, _++_, map, List·Memᴰ, List·Memᴰ·head, List·Memᴰ·tail, List·Memᴰ·not-nil}
 use mathlib.Core.Bool.{Bool, true, false, not, _&&_, _||_}
-use mathlib.Core.Option.{none, some}
+use mathlib.Core.Option.{Option, none, some}
 use Prim.Native.Nat.{ℕ, zero, suc, _+_, _≤_, _<_}
 use native.Mathlib.Omega.{arith}
 use lib.Dec.{eqb, ltb}
@@ -55,6 +55,13 @@ find-through f φ e (x ∷ xs) =
     test-cases (find f (φ x ∷ map φ xs) ≡ maybe none (λ x. some (φ x)) (find f (x ∷ xs))) (f x)
     (λ y. rw (find-yes f (φ x) (map φ xs) (e x ∙ y), find-yes f x xs y) (unfold maybe in refl))
     (λ n. rw (find-no f (φ x) (map φ xs) (e x ∙ n), find-no f x xs n) (find-through f φ e xs))
+
+-- what is looked at in the one that is found does not see the function
+pub seen-through : {A B : Type 0} (φ : A → A) (g : A → B) → ((x : A) → g (φ x) ≡ g x) → (found : Option A)
+    → maybe none (λ x. some (g x)) (maybe none (λ x. some (φ x)) found) ≡ maybe none (λ x. some (g x)) found
+unfolding maybe
+seen-through φ g e none = refl
+seen-through φ g e (some x) = ap some (e x)
 
 -- an order that does not see the function stays
 pub ascending-through : {A : Type 0} (before : A → A → Bool) (φ : A → A) → ((x y : A) → before (φ x) (φ y) ≡ before x y) → (xs : List A) → ascending before xs ≡ true

@@ -15,7 +15,7 @@ use Rattle.rules.specs.Book.{bookPlaces}
 use Rattle.rules.specs.Lists.{given, all, count, ascending, begun}
 use Rattle.rules.specs.Sizes.{blockBytes, unitBlocks, mostBlocks, mostSize, mostAllocated}
 use Rattle.rules.specs.Bytes.{Bytes, part}
-use Rattle.rules.specs.Card.{Card, cardBefore}
+use Rattle.rules.specs.Card.{Card, decodeCard, cardBefore}
 use Rattle.rules.specs.Extent.{Extent, extentBytes, extentBefore, extentEnd}
 use Rattle.rules.specs.Group.{groupBytes, groupBefore}
 use Rattle.rules.specs.Map.{mapBytes}
@@ -66,7 +66,7 @@ checksum-below uuid object unit bytes = go _
 extent-fits : {cards : List Card} → Each CardFits cards → (n : ℕ) → n ≤ mostBlocks → (e : Extent) → inFile cards e ≡ true → e .physical + e .count ≤ n → ExtentFits e
 unfolding inFile extentEnd
 extent-fits {cards} f n m e t l =
-    let d : Card = record { object = 0; size = 0; allocated = 0; changed = record { seconds = 0; nanoseconds = 0 } } in
+    let d : Card = decodeCard [] in
     let i = any-index (λ c. eqb (c .object) (e .object) && leb (e .logical + e .count) (begun (c .size) blockBytes)) cards d t in
     let c : Card = getD cards (i .0) d in
     let k : CardFits c = each-at f (i .0) d (i .1) in

@@ -42,7 +42,7 @@ third done left = batchGives 0 done left
 
 -- the plain array of file 7
 pub files : List File
-files = record { object = 7; bytes = 1 ∷ 2 ∷ 3 ∷ [] } ∷ []
+files = record { object = 7; created = noon; bytes = 1 ∷ 2 ∷ 3 ∷ [] } ∷ []
 
 -- of two writes to it, and a third to a file that there is none of, so many were done
 pub after : ℕ → List File
@@ -78,8 +78,8 @@ pub record Table : Type 0 where
   pub goes-on : afterWrite 1 nowhere (accept 4096 nowhere []) third ≡ batchGives 0 2 nowhere
   -- "the writes done, in order": the plain array takes so many
   pub none-taken : after 0 ≡ files
-  pub one-taken : after 1 ≡ record { object = 7; bytes = 1 ∷ 8 ∷ 3 ∷ [] } ∷ []
-  pub two-taken : after 2 ≡ record { object = 7; bytes = 1 ∷ 8 ∷ 3 ∷ 0 ∷ 9 ∷ 6 ∷ [] } ∷ []
+  pub one-taken : after 1 ≡ record { object = 7; created = noon; bytes = 1 ∷ 8 ∷ 3 ∷ [] } ∷ []
+  pub two-taken : after 2 ≡ record { object = 7; created = noon; bytes = 1 ∷ 8 ∷ 3 ∷ 0 ∷ 9 ∷ 6 ∷ [] } ∷ []
 
 pub cases : Table
 unfolding opened triple laid longest noon nowhere answersOn third files after

@@ -24,8 +24,8 @@ use Rattle.rules.specs.Arguments.{timeWrong, hasCard, cardsFull}
 use Rattle.rules.specs.Enter.{newCard, entered, enterCases, enterOutcome}
 use Rattle.rules.specs.Call.{InRange, call}
 use Rattle.rules.specs.Call.Call.{enter}
-use Rattle.rules.proofs.ListLaws.{order-cases, if-cases, or-left, or-right, or-none-left, or-none-right, all-of, all-weaken, none-at, filter-yes, filter-no, filter-none, find-given, each-insert, length-insert, all-insert, ascending-insert}
-use Rattle.rules.proofs.CardLaws.{CardFits}
+use Rattle.rules.proofs.ListLaws.{order-cases, if-cases, and-intro, or-left, or-right, or-none-left, or-none-right, all-of, all-weaken, none-at, filter-yes, filter-no, filter-none, find-given, each-insert, length-insert, all-insert, ascending-insert}
+use Rattle.rules.proofs.CardLaws.{TimeFits, CardFits}
 use Rattle.rules.proofs.StoreLaws.{VolumeFits}
 use Rattle.rules.proofs.PassLaws.{each-passed, all-passed, Passes, Lawful, Room, BuffersSized, passes-sized, lawful-decode, room-decode, decode-fits, Says, says-encodeInto}
 use Rattle.rules.proofs.OutcomeLaws.{through, store-passes}
@@ -177,6 +177,19 @@ time-right time h =
       part = leb-false nanosecondsBound (time .nanoseconds) (or-none-right w x h);
     }
 
+-- a new card has it twice, and passes refusal 2's test of nanoseconds
+new-times : (object : ℕ) (time : Time) → TimeRight time → cardTimesRight (newCard object time) ≡ true
+unfolding newCard cardTimesRight
+new-times object time t =
+    let b : Bool = ltb (time .nanoseconds) nanosecondsBound in
+    let u : b ≡ true = lt-ltb (time .nanoseconds) nanosecondsBound (t .part) in
+    and-intro b b u u
+
+-- its numbers are in range
+pub new-fits : (object : ℕ) (time : Time) → object < 2 ^ 64 → TimeFits time → CardFits (newCard object time)
+unfolding newCard
+new-fits object time o f = record { object = o; size = omega arith; allocated = omega arith; changed = f; created = f }
+
 -- enter's tests pass, and it leaves the buffers that say the volume with the new card
 pub record EnterAccepted (object : ℕ) (time : Time) (s : Store) : Type 0 where
   pub passes : Passes s
@@ -210,14 +223,8 @@ module _ (s : Store) (b : StoreBytes s) (object : ℕ) (time : Time) (i : InRang
       let p : Passes s = a .passes in
       let z : BuffersSized s = passes-sized s p in
       let n : suc (length (v .books .cards)) < 2 ^ 20 = omega (arith, a .room, z .cards .most) in
-      let g : CardFits c = unfold newCard in record {
-        object = i .0;
-        size = omega arith;
-        allocated = omega arith;
-        seconds = omega (arith, a .timely .early);
-        nanoseconds = omega (arith, a .timely .part);
-      } in
-      let l : Lawful (entered c v) = unfold newCard in entered-lawful c v (a .new) (unfold cardTimesRight in lt-ltb (time .nanoseconds) nanosecondsBound (a .timely .part)) (lawful-decode s p) in
+      let g : CardFits c = new-fits object time (i .0) (record { seconds = omega (arith, a .timely .early); nanoseconds = omega (arith, a .timely .part) }) in
+      let l : Lawful (entered c v) = unfold newCard in entered-lawful c v (a .new) (new-times object time (a .timely)) (lawful-decode s p) in
       let m : Bytes (entered c v .image) = unfold entered decode decodeWith in b .image in
       rw (a .store) (says-encodeInto s (entered c v) (entered-room c v s (a .room) (room-decode s p)) (entered-fits c v g n (decode-fits s p b)) l m)
 

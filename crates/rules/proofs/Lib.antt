@@ -17,6 +17,7 @@ pub mod Crc
 pub mod Cases
 pub mod ManyCases
 pub mod FillCases
+pub mod CardCases
 pub mod BatchCases
 pub mod Refused
 pub mod PassLaws

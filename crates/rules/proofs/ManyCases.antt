@@ -45,7 +45,7 @@ sized size = record {
   reserved = 0;
   hint = 0;
   books = record {
-    cards = record { object = 7; size = size; allocated = 0; changed = record { seconds = 0; nanoseconds = 0 } } ∷ [];
+    cards = record { object = 7; size = size; allocated = 0; changed = record { seconds = 0; nanoseconds = 0 }; created = record { seconds = 0; nanoseconds = 0 } } ∷ [];
     extents = [];
     groups = [];
   };
@@ -67,7 +67,10 @@ numberOn used list out =
 
 -- the plain arrays of files 7 and 8
 pub files : List File
-files = record { object = 7; bytes = 1 ∷ 2 ∷ 3 ∷ [] } ∷ record { object = 8; bytes = 4 ∷ [] } ∷ []
+files = file 7 (1 ∷ 2 ∷ 3 ∷ []) ∷ file 8 (4 ∷ []) ∷ []
+  where
+    file : ℕ → List ℕ → File
+    file object bytes = record { object = object; created = record { seconds = 0; nanoseconds = 0 }; bytes = bytes }
 
 pub record Table : Type 0 where
   pub number : numberOf bad-reads ≡ 17

@@ -10,7 +10,7 @@ use lib.ListN.{length, drop}
 use Rattle.rules.specs.Lists.{if_then_else_, range, count, member}
 use Rattle.rules.specs.Card.{Card}
 use Rattle.rules.specs.Extent.{Extent}
-use Rattle.rules.specs.Store.{Store, StoreBytes, Volume, decode, imageBlocks}
+use Rattle.rules.specs.Store.{Store, StoreBytes, Volume, decode, imageBlocks, createdOf}
 use Rattle.rules.specs.Refusal.{Result}
 use Rattle.rules.specs.Triples.{decodeTriples}
 use Rattle.rules.specs.ReadMany.{different}
@@ -19,7 +19,7 @@ use Rattle.rules.specs.Call.Look.{read, readMany}
 use Rattle.rules.specs.Call.Call.{fresh, enter, write, grow, settle, look}
 use Rattle.rules.specs.Act.{Act, ActInRange, act, actRefused, partsDone}
 use Rattle.rules.specs.Act.Act.{whole, batch}
-use Rattle.rules.specs.Plain.{Fed, File, plain, fileBytes, plainRead, plainMany, plainPairs}
+use Rattle.rules.specs.Plain.{Fed, File, plain, fileBytes, fileCreated, plainRead, plainMany, plainPairs}
 
 -- ---- a list of calls
 
@@ -105,7 +105,8 @@ abbrev pub neverNumbers : List ℕ
 neverNumbers = 2 ∷ 9 ∷ 10 ∷ 11 ∷ 12 ∷ 14 ∷ []
 
 -- a store that calls left, the plain arrays after the same calls, and the number given to the last accepted fresh. Four clauses are the demand's
--- own, and W-201's is the first of them for many reads; plain arrays, places, reserved and retired are as document 01 defines them
+-- own, W-201's is the first of them for many reads, and W-205's is about the time on each card that no later call sets; plain arrays, places,
+-- reserved and retired are as document 01 defines them
 pub record Sound (files : List File) (reserved : ℕ) (s : Store) : Type 0 where
   -- "reads give the plain array's bytes": every read that is accepted, from any place into any buffer
   pub reads : (object offset : ℕ) (out : List ℕ) → InRange (look (read object offset out)) → call (look (read object offset out)) s .number ≡ 0
@@ -117,6 +118,8 @@ pub record Sound (files : List File) (reserved : ℕ) (s : Store) : Type 0 where
   pub onePlace : (b : ℕ) → b < imageBlocks s → holders reserved (decode s) b ≡ 1
   -- "card counts are right": each card's allocated blocks are the places of its file
   pub counts : (c : Card) → List·Memᴰ c (decode s .books .cards) → c .allocated ≡ filePlaces (decode s) (c .object)
+  -- there is a card for each plain array and for nothing else, and it says when the file was entered, whatever was done to it since
+  pub created : (object : ℕ) → createdOf (decode s) object ≡ fileCreated files object
   -- "refusals 2, 9 to 12 and 14 never come": not to any call that could be the next, and no batch is stopped by one of them
   pub never : (a : Act) → ActInRange a → member (act a s .number) neverNumbers ≡ false
 

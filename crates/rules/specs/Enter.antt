@@ -12,9 +12,9 @@ use Rattle.rules.specs.Refusal.Outcome.{accept}
 use Rattle.rules.specs.Integrity.{storeCases}
 use Rattle.rules.specs.Arguments.{hasCard, timeWrong, cardsFull}
 
--- "Enter adds a card of size 0 with no blocks and the lent time."
+-- "Enter adds a card of size 0 with no blocks and the lent time."; W-205: "Enter sets both times to the lent one"
 unfoldable pub newCard : ℕ → Time → Card
-newCard object time = record { object = object; size = 0; allocated = 0; changed = time }
+newCard object time = record { object = object; size = 0; allocated = 0; changed = time; created = time }
 
 -- the volume with it
 unfoldable pub entered : Card → Volume → Volume

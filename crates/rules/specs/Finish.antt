@@ -103,9 +103,10 @@ finishedGroups object (r ∷ rs) gs = finishedGroups object rs (setSlot object (
 
 -- ---- the cards
 
--- a card after a change to its file: the new size, the count and the time; all else on it stays
+-- a card after a change to its file: the new size, the count and the time; W-205: "write and grow set only the first", the creation time stays
 unfoldable pub changedCard : ℕ → ℕ → Time → Card → Card
-changedCard size allocated time d = record { object = d .object; size = size; allocated = allocated; changed = time }
+changedCard size allocated time d =
+    record { object = d .object; size = size; allocated = allocated; changed = time; created = d .created }
 
 -- the finished cards
 unfoldable pub finishedCards : Change → ℕ → Time → List Card → List Card

@@ -37,9 +37,9 @@ fixedRight l =
     && all extentFixed (pieces extentBytes (l .extentCount) (l .extents))
     && all groupFixed (pieces groupBytes (l .groupCount) (l .groups))
 
--- a card's nanoseconds are fewer than a second has
+-- a card's nanoseconds are fewer than a second has; W-205: "refusal 2 tests the new nanoseconds [..] too"
 unfoldable pub cardTimesRight : Card → Bool
-cardTimesRight c = ltb (c .changed .nanoseconds) nanosecondsBound
+cardTimesRight c = ltb (c .changed .nanoseconds) nanosecondsBound && ltb (c .created .nanoseconds) nanosecondsBound
 
 -- not: "nanoseconds 1,000,000,000 or more"
 unfoldable pub timesRight : Books → Bool

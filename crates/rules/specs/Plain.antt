@@ -24,14 +24,15 @@ pub record Fed : Type 0 where
   pub refused : Bool
   pub done : ℕ
 
--- "State: objects, each with its bytes; at the start none." (a plain array)
+-- "State: objects, each with its bytes; at the start none." (a plain array); and, for W-205, the time that its enter was lent
 pub record File : Type 0 where
   pub object : ℕ
+  pub created : Time
   pub bytes : List ℕ
 
 -- the file of this object with its bytes put through f, the others as they are
 unfoldable pub change : ℕ → (List ℕ → List ℕ) → List File → List File
-change object f files = map (λ a. if eqb (a .object) object then record { object = a .object; bytes = f (a .bytes) } else a) files
+change object f files = map (λ a. if eqb (a .object) object then record { object = a .object; created = a .created; bytes = f (a .bytes) } else a) files
 
 -- "stand from the offset on, over what was there, with zeros filled in before them if the offset is past the end"
 unfoldable pub overwrite : ℕ → List ℕ → List ℕ → List ℕ
@@ -42,7 +43,7 @@ overwrite offset new old = patch (padded offset old) offset new
 -- new size. Read, settle, fill [..]: no change."; so many reads in one call
 unfoldable pub accepted : Call → List File → List File
 accepted (fresh uuid reserved) files = []
-accepted (enter object time) files = record { object = object; bytes = [] } ∷ files
+accepted (enter object time) files = record { object = object; created = time; bytes = [] } ∷ files
 accepted (write object offset bytes time) files =
     if eqb (length bytes) 0 then files else change object (overwrite offset (take mostTransfer bytes)) files
 accepted (grow object size time) files = change object (padded size) files
@@ -73,6 +74,10 @@ plain (f ∷ fs) files = plain fs (step f files)
 -- an object's bytes
 unfoldable pub fileBytes : List File → ℕ → Option (List ℕ)
 fileBytes files object = maybe none (λ a. some (a .bytes)) (find (λ a. eqb (a .object) object) files)
+
+-- when it was made
+unfoldable pub fileCreated : List File → ℕ → Option Time
+fileCreated files object = maybe none (λ a. some (a .created)) (find (λ a. eqb (a .object) object) files)
 
 -- "A read's bytes are those from its offset to the end, at most 1,048,576 and at most its buffer's length"
 unfoldable pub plainRead : List ℕ → ℕ → ℕ → List ℕ

@@ -2,11 +2,12 @@
 -- Assumes nothing.
 use mathlib.Core.List.{List}
 use mathlib.Core.Bool.{Bool}
-use mathlib.Core.Option.{Option}
+use mathlib.Core.Option.{Option, none, some}
 use Prim.Native.Nat.{ℕ, _/_, _*_}
 use lib.Dec.{eqb}
 use lib.ListN.{length}
-use Rattle.rules.specs.Lists.{find}
+use Rattle.rules.specs.Lists.{maybe, find}
+use Rattle.rules.specs.Time.{Time}
 use Rattle.rules.specs.Sizes.{blockBytes}
 use Rattle.rules.specs.Bytes.{part, bitSet, Bytes}
 use Rattle.rules.specs.Head.{Head, decodeHead, encodeHead}
@@ -143,3 +144,7 @@ blockAt image block = part (block * blockBytes) blockBytes image
 -- an object's card
 unfoldable pub cardOf : Volume → ℕ → Option Card
 cardOf v object = find (λ c. eqb (c .object) object) (v .books .cards)
+
+-- when its file was made, as the card says
+unfoldable pub createdOf : Volume → ℕ → Option Time
+createdOf v object = maybe none (λ c. some (c .created)) (cardOf v object)

@@ -38,7 +38,7 @@ one = small 1 2
 
 -- a card of file 8
 pub card8 : Card
-card8 = record { object = 8; size = 8; allocated = 1; changed = time 1 1 }
+card8 = record { object = 8; size = 8; allocated = 1; changed = time 1 1; created = time 1 1 }
 
 -- an extent of it
 pub extent8 : Extent

@@ -1,10 +1,11 @@
 -- Refusal 2, word by word, computed by the checker: a small store, broken in one way, and beside them what passes.
 -- Assumes nothing.
 use mathlib.Core.Path.{_≡_, refl}
-use mathlib.Core.List.{List, [], _∷_}
+use mathlib.Core.List.{[], _∷_}
 use mathlib.Core.Bool.{Bool, true, false}
 use Prim.Native.Nat.{ℕ}
-use lib.ListN.{replicate, set}
+use lib.ListN.{set}
+use Rattle.rules.specs.Time.{Time}
 use Rattle.rules.specs.Card.{Card}
 use Rattle.rules.specs.Extent.{Extent}
 use Rattle.rules.specs.Group.{emptyGroup}
@@ -36,13 +37,17 @@ maps = ((2, 0), false, true)
 pub both : Told
 both = ((2, 0), true, true)
 
--- files 6 and 8, with no bytes
+-- file 7, made at another time
+pub madeAt : Time → Card
+madeAt created = record { object = 7; size = 8; allocated = 1; changed = time 12 13; created = created }
+
+-- file 6, with no bytes
 pub six : Card
-six = record { object = 6; size = 0; allocated = 0; changed = time 1 1 }
+six = record { object = 6; size = 0; allocated = 0; changed = time 1 1; created = time 1 1 }
 
 -- file 8, of one byte
 pub eight : Card
-eight = record { object = 8; size = 1; allocated = 1; changed = time 1 1 }
+eight = record { object = 8; size = 1; allocated = 1; changed = time 1 1; created = time 1 1 }
 
 -- its extent, at the device's block 1, and one at its second block
 pub eighth : ℕ → Extent
@@ -72,21 +77,27 @@ pub record Broken : Type 0 where
   pub groups-number : told (withGroups (emptyGroup 7 1 ∷ zeroth 1 ∷ []) (small 1 2)) ≡ books
   pub groups-twice : told (withGroups (zeroth 1 ∷ zeroth 1 ∷ []) (small 1 2)) ≡ books
   -- "zeros after the last record": the first byte behind it and the book's last
-  pub behind : told (cardByte 32 1 (small 1 2)) ≡ books
-  pub behind-last : told (cardByte 63 1 (small 1 2)) ≡ books
+  pub behind : told (cardByte 48 1 (small 1 2)) ≡ books
+  pub behind-last : told (cardByte 95 1 (small 1 2)) ≡ books
   pub behind-extents : told (extentByte 33 1 (small 2 1)) ≡ books
   pub behind-extents-last : told (extentByte 65 1 (small 2 1)) ≡ books
   pub behind-groups : told (groupByte 1073 1 (small 1 2)) ≡ books
   pub behind-groups-last : told (groupByte 2145 1 (small 1 2)) ≡ books
-  -- "fixed or spare bytes": the card's spare bit, the extent's 3 and its zeros, the group's 4
-  pub spare : told (cardByte 31 27 (small 1 2)) ≡ books
+  -- "fixed or spare bytes": the first and the last of the card's 36 spare bits, the extent's 3 and its zeros, the group's 4
+  pub spare-first : told (cardByte 43 104 (small 1 2)) ≡ books
+  pub spare-last : told (cardByte 47 1 (small 1 2)) ≡ books
   pub extent-tag : told (extentByte 8 5 (small 1 2)) ≡ books
   pub extent-zero : told (extentByte 29 1 (small 1 2)) ≡ books
   pub extent-zeros : told (extentByte 32 1 (small 1 2)) ≡ books
   pub group-tag : told (groupByte 8 3 (small 1 2)) ≡ books
+  -- the bit before the creation's seconds was spare before W-205: it is the first of them
+  pub creation-first : told (cardByte 31 27 (small 1 2)) ≡ sound 333
   -- "nanoseconds 1,000,000,000 or more"
   pub last-nanosecond : told (withCards (card 8 1 12 999999999 ∷ []) (small 1 2)) ≡ sound 333
   pub nanoseconds : told (withCards (card 8 1 12 1000000000 ∷ []) (small 1 2)) ≡ books
+  -- and the creation's
+  pub creation-last-nanosecond : told (withCards (madeAt (time 5 999999999) ∷ []) (small 1 2)) ≡ sound 333
+  pub creation-nanoseconds : told (withCards (madeAt (time 5 1000000000) ∷ []) (small 1 2)) ≡ books
   -- "an extent with count 0"
   pub empty : told (withFiles (card 8 1 12 13 ∷ []) (extent 0 3 0 ∷ []) (small 1 2)) ≡ books
   -- "overlapping its neighbour in the file"; one of another file does not
@@ -123,7 +134,7 @@ pub record Broken : Type 0 where
   pub retired-last : told (lastBits 0 128 (small 1 2)) ≡ maps
 
 pub broken : Broken
-unfolding computed told sound books maps both six eight eighth full lastBits
+unfolding computed told sound books maps both madeAt six eight eighth full lastBits
 broken = record {
   ordered = refl;
   order = refl;
@@ -141,13 +152,17 @@ broken = record {
   behind-extents-last = refl;
   behind-groups = refl;
   behind-groups-last = refl;
-  spare = refl;
+  spare-first = refl;
+  spare-last = refl;
   extent-tag = refl;
   extent-zero = refl;
   extent-zeros = refl;
   group-tag = refl;
+  creation-first = refl;
   last-nanosecond = refl;
   nanoseconds = refl;
+  creation-last-nanosecond = refl;
+  creation-nanoseconds = refl;
   empty = refl;
   beside = refl;
   overlapping = refl;

@@ -13,3 +13,4 @@ pub mod Fill
 pub mod ReadMany
 pub mod Batches
 pub mod KeptBlocks
+pub mod Created

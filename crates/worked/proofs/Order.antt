@@ -1,7 +1,7 @@
 -- Refusals in checking order, computed by the checker: calls for which two of them hold, and what is tried of none. `Refused` has each alone.
 -- Assumes nothing.
 use mathlib.Core.Path.{_≡_, refl}
-use mathlib.Core.List.{List, [], _∷_}
+use mathlib.Core.List.{[], _∷_}
 use Prim.Native.Nat.{ℕ, _+_, _*_}
 use lib.ListN.{replicate}
 use Rattle.rules.specs.Head.{encodeHead}
@@ -9,7 +9,7 @@ use Rattle.rules.specs.Time.{Time}
 use Rattle.rules.specs.Card.{Card}
 use Rattle.rules.specs.Store.{Store, decode}
 use Rattle.rules.specs.Call.{call, run}
-use Rattle.rules.specs.Call.Call.{enter, write, grow, settle, look}
+use Rattle.rules.specs.Call.Call.{enter, write, grow, look}
 use Rattle.rules.specs.Call.Look.{read, fill}
 use Rattle.worked.proofs.Stores.{uuid, time, small, answer, extents, cards, extent, card, withHead, mapped, imageByte, withCards, second, computed}
 
@@ -19,7 +19,7 @@ never = time 1 1000000000
 
 -- file 8 with no bytes and this count
 pub eight : ℕ → Card
-eight n = record { object = 8; size = 0; allocated = n; changed = time 1 1 }
+eight n = record { object = 8; size = 0; allocated = n; changed = time 1 1; created = time 1 1 }
 
 -- the small store with hint 1, which is none of its groups
 pub hinted : Store

@@ -35,7 +35,7 @@ one = small 1 2
 
 -- beside it file 8, a hole of this size
 pub two : ℕ → Store
-two size = withCards (card 8 1 12 13 ∷ record { object = 8; size = size; allocated = 0; changed = time 1 1 } ∷ []) (small 1 2)
+two size = withCards (card 8 1 12 13 ∷ record { object = 8; size = size; allocated = 0; changed = time 1 1; created = time 1 1 } ∷ []) (small 1 2)
 
 -- with a byte of file 7 changed, so that its checksum differs
 pub damaged : Store

@@ -22,14 +22,25 @@ head = record { uuid = range 1 16; blocks = 65536; reserved = 5; hint = 3; cards
 pub headLaid : List ℕ
 headLaid = range 1 16 ++ (128 ∷ 0 ∷ 0 ∷ 1 ∷ 127 ∷ 66 ∷ 64 ∷ 0 ∷ 0 ∷ 32 ∷ 0 ∷ 7 ∷ [])
 
--- a card: object 0x0102030405060708, size 0x1112131415161718, 0x312345678 blocks, 0x2122232425262728 seconds, and its 32 bytes
+-- a card: object 0x0102030405060708, size 0x1112131415161718, 0x312345678 blocks, changed at 0x2122232425262728 seconds, made at 0x5152535455565758
+-- seconds and 0x32345679 nanoseconds, and its 48 bytes
 pub card : Card
-card = record { object = 72623859790382856; size = 1230066625199609624; allocated = 13190321784; changed = time 2387509390608836392 999999999 }
+card = record {
+  object = 72623859790382856;
+  size = 1230066625199609624;
+  allocated = 13190321784;
+  changed = time 2387509390608836392 999999999;
+  created = time 5859837686836516696 842290809;
+}
 
 pub cardLaid : List ℕ
 cardLaid =
     range 1 8
-    ++ (34 ∷ 36 ∷ 38 ∷ 40 ∷ 42 ∷ 44 ∷ 46 ∷ 48 ∷ 196 ∷ 141 ∷ 21 ∷ 158 ∷ 16 ∷ 145 ∷ 17 ∷ 146 ∷ 18 ∷ 147 ∷ 19 ∷ 148 ∷ 119 ∷ 53 ∷ 147 ∷ 254 ∷ [])
+    ++ (34 ∷ 36 ∷ 38 ∷ 40 ∷ 42 ∷ 44 ∷ 46 ∷ 48 ∷ [])
+    ++ (196 ∷ 141 ∷ 21 ∷ 158 ∷ 16 ∷ 145 ∷ 17 ∷ 146 ∷ [])
+    ++ (18 ∷ 147 ∷ 19 ∷ 148 ∷ 119 ∷ 53 ∷ 147 ∷ 255 ∷ [])
+    ++ (69 ∷ 73 ∷ 77 ∷ 81 ∷ 85 ∷ 89 ∷ 93 ∷ 99 ∷ [])
+    ++ (35 ∷ 69 ∷ 103 ∷ 144 ∷ 0 ∷ 0 ∷ 0 ∷ 0 ∷ [])
 
 -- an extent: the same object, logical block 0x1112131415161718, physical 0x2122232425262728, count 0x31323334, and its 33 bytes
 pub extent : Extent

@@ -5,7 +5,7 @@ use mathlib.Core.List.{[], _∷_}
 use Prim.Native.Nat.{_+_, _*_}
 use lib.ListN.{replicate}
 use Rattle.rules.specs.Call.Call.{enter, write, grow, settle, look}
-use Rattle.rules.specs.Call.Look.{read, fill}
+use Rattle.rules.specs.Call.Look.{read}
 use Rattle.worked.proofs.Stores.{time, small, answer, card, withHead, mapped, imageByte, withCards, withFiles, withGroups, second, computed}
 
 pub record Refused : Type 0 where
@@ -35,7 +35,7 @@ pub record Refused : Type 0 where
   pub r13 : answer (write 7 0 (1 ∷ []) (time 8 9)) (mapped 15 6 (small 1 2)) ≡ (13, 0)
   pub r14 : answer (write 7 0 (1 ∷ []) (time 8 9)) (withCards (card 8 0 12 13 ∷ []) (small 1 2)) ≡ (14, 0)
   pub r14-high : answer (write 8 0 (1 ∷ []) (time 8 9))
-      (withCards (card 8 1 12 13 ∷ record { object = 8; size = 0; allocated = 34359738367; changed = time 1 1 } ∷ []) (small 1 2)) ≡ (14, 0)
+      (withCards (card 8 1 12 13 ∷ record { object = 8; size = 0; allocated = 34359738367; changed = time 1 1; created = time 1 1 } ∷ []) (small 1 2)) ≡ (14, 0)
   pub r15 : answer (write 8 0 (1 ∷ []) (time 8 9)) (second (small 2 1)) ≡ (15, 0)
   pub r16 : answer (write 8 0 (1 ∷ []) (time 8 9)) (second (small 1 2)) ≡ (16, 0)
 

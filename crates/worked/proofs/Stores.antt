@@ -7,9 +7,9 @@ use lib.ListN.{replicate}
 use Rattle.rules.specs.Bytes.{patch, padded, bitSet}
 use Rattle.rules.specs.Time.{Time}
 use Rattle.rules.specs.Head.{encodeHead}
-use Rattle.rules.specs.Card.{Card}
-use Rattle.rules.specs.Extent.{Extent}
-use Rattle.rules.specs.Group.{Group, emptyGroup, setChecksumSlot}
+use Rattle.rules.specs.Card.{Card, cardBytes}
+use Rattle.rules.specs.Extent.{Extent, extentBytes}
+use Rattle.rules.specs.Group.{Group, groupBytes, emptyGroup, setChecksumSlot}
 use Rattle.rules.specs.Book.{Books}
 use Rattle.rules.specs.Store.{Store, lent, decode, encodeInto, withBooks}
 use Rattle.rules.specs.Call.{Call, call, run}
@@ -19,7 +19,8 @@ use Rattle.rules.proofs.Opened.{opened}
 -- a store of so many blocks, and books of so many places, all zeros
 unfoldable pub zeros : ℕ → ℕ → ℕ → ℕ → Store
 zeros blocks cards extents groups =
-    lent (replicate (blocks * 4096) 0) (replicate 28 0) (replicate (cards * 32) 0) (replicate (extents * 33) 0) (replicate (groups * 1073) 0)
+    lent (replicate (blocks * 4096) 0) (replicate 28 0) (replicate (cards * cardBytes) 0) (replicate (extents * extentBytes) 0)
+    (replicate (groups * groupBytes) 0)
     (replicate 8 0) (replicate 8 0)
 
 -- so many seconds, and nanoseconds
@@ -62,9 +63,10 @@ cards s = decode s .books .cards
 unfoldable pub extent : ℕ → ℕ → ℕ → Extent
 extent logical physical count = record { object = 7; logical = logical; physical = physical; count = count }
 
--- a card of file 7
+-- a card of file 7, made when the history enters it
 unfoldable pub card : ℕ → ℕ → ℕ → ℕ → Card
-card size allocated seconds nanoseconds = record { object = 7; size = size; allocated = allocated; changed = time seconds nanoseconds }
+card size allocated seconds nanoseconds =
+    record { object = 7; size = size; allocated = allocated; changed = time seconds nanoseconds; created = time 5 6 }
 
 -- ---- damaged copies
 

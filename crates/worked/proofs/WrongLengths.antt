@@ -6,7 +6,6 @@ use mathlib.Core.List.{List, [], _∷_, _++_}
 use mathlib.Core.Bool.{true, false}
 use Prim.Native.Nat.{ℕ, _+_, _*_}
 use lib.ListN.{length, take, drop, replicate}
-use Rattle.rules.specs.Bytes.{patch}
 use Rattle.rules.specs.Store.{Store, lent}
 use Rattle.rules.specs.Lengths.{imageFits, bookFits}
 use Rattle.rules.specs.Call.Call.{fresh, look}
@@ -45,7 +44,9 @@ pub record Wrong : Type 0 where
   pub cards-long : answer (look fill) (longer (0 ∷ []) [] [] (small 1 2)) ≡ (1, 0)
   pub extents-long : answer (look fill) (longer [] (0 ∷ []) [] (small 1 2)) ≡ (1, 0)
   pub groups-long : answer (look fill) (longer [] [] (0 ∷ []) (small 1 2)) ≡ (1, 0)
-  pub places-more : answer (look fill) (longer (replicate 32 0) (replicate 33 0) (replicate 1073 0) (small 1 2)) ≡ (0, 333)
+  pub places-more : answer (look fill) (longer (replicate 48 0) (replicate 33 0) (replicate 1073 0) (small 1 2)) ≡ (0, 333)
+  -- a place of 32 bytes is none (W-205: "Refusal 1 measures card books in 48 bytes")
+  pub cards-shorter : answer (look fill) (longer (replicate 32 0) [] [] (small 1 2)) ≡ (1, 0)
   -- "or has over 1,048,575 places"
   pub most-places : (book : List ℕ) → length book ≡ 1048575 * 33 → bookFits 33 book ≡ true
   pub places-over : (book : List ℕ) → length book ≡ 1048576 * 33 → bookFits 33 book ≡ false
@@ -90,6 +91,7 @@ wrong = record {
   extents-long = refl;
   groups-long = refl;
   places-more = refl;
+  cards-shorter = refl;
   most-places = λ book h. rw h refl;
   places-over = λ book h. rw h refl;
   head-short = refl;
