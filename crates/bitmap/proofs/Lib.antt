@@ -1,4 +1,2 @@
 pub mod BitLaws
 pub mod MapLaws
-pub mod PairLaws
-pub mod DifferenceLaws

@@ -3,17 +3,14 @@
 // A range of 64 bits or more is taken in three parts: bit by bit to a byte's edge, then in words of 64 bits, then what is left bit by bit. The words
 // have loops of their own, with no test in them but the one that is asked for, so that they run at the speed of memory.
 //
-// The modules beside: `pair` compares two maps, `difference` takes the bits of one from another.
-pub mod difference;
-pub mod pair;
-
+// `bitmap_pairs` has what takes two maps.
 ghost use mathlib.Core.Path.{_≡_};
-ghost use mathlib.Core.Bool.{Bool, true, false, not};
-ghost use Prim.Native.Nat.{ℕ, _+_, _-_, _*_, _%_, _^_, _≤_, _<_};
+ghost use mathlib.Core.Bool.{true, false, not};
+ghost use Prim.Native.Nat.{_+_, _-_, _*_, _%_, _^_, _≤_, _<_};
 ghost use lib.ListN.{length};
 ghost use Rattle.rules.specs.Lists.{if_then_else_, all, count, range};
 ghost use Rattle.rules.specs.Bytes.{bitSet};
-ghost use Rattle.bitmap.specs.Map.{bitOf, withBit, withBits, First, Next};
+ghost use Rattle.bitmap.specs.Map.{withBit, withBits, First, Next};
 
 // Whether bit `n` is set.
 pub fn get(m: &[u8], n: usize) -> bool

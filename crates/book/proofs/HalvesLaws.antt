@@ -21,7 +21,7 @@ use Rattle.rules.proofs.ListLaws.{if-true, if-false, test-cases, clash, and-lef
 use Rattle.rules.proofs.ByteLaws.{part-part}
 use Rattle.rules.proofs.BookLaws.{length-decodeBook}
 use Rattle.format.proofs.CardWords.{object-read}
-use Rattle.format.proofs.SlotLaws.{group-object as object-of-group, group-number as number-of-group}
+use Rattle.checksum_group.proofs.SlotLaws.{group-object as object-of-group, group-number as number-of-group}
 use Rattle.halving.specs.Halving.{looked, endsAt, Parted}
 use Rattle.halving.specs.Keys.{reaches, objectAt, numberAt, reached, ownedBefore}
 use Rattle.halving.proofs.HalvingLaws.{Falls, parted, parted-as, ends-within, looked-same, ends-same, ends-each}
@@ -55,9 +55,9 @@ module _ (s : List ℕ) (i : ℕ) where
   group-number = sym (number-of-group s (1073 * i) (be (part (1073 * i + 9) 8 s)) refl)
 
   -- the object of a card, where its bytes are bytes
-  card-object : Bytes s → 32 * i + 32 ≤ length s → recordAt decodeCard cardBytes s i .object ≡ objectAt cardBytes s i
+  card-object : Bytes s → cardBytes * i + cardBytes ≤ length s → recordAt decodeCard cardBytes s i .object ≡ objectAt cardBytes s i
   unfolding recordAt objectAt
-  card-object b l = sym (object-read s (32 * i) b l (be (part (32 * i) 8 s)) refl)
+  card-object b l = sym (object-read s (cardBytes * i) b l (be (part (cardBytes * i) 8 s)) refl)
 
 -- ---- tests of a record
 
@@ -78,7 +78,7 @@ module _ (s : List ℕ) (object number i : ℕ) where
   group-under = rw (group-object s i, group-number s i) (or-none (pairBefore (objectAt groupBytes s i) (numberAt groupBytes s i) object number))
 
 -- of a card only the object counts: no number stands under 0
-card-under : (s : List ℕ) (object i : ℕ) → Bytes s → 32 * i + 32 ≤ length s → reached false object 0 cardBytes s i ≡ cardUnder object (recordAt decodeCard cardBytes s i)
+card-under : (s : List ℕ) (object i : ℕ) → Bytes s → cardBytes * i + cardBytes ≤ length s → reached false object 0 cardBytes s i ≡ cardUnder object (recordAt decodeCard cardBytes s i)
 unfolding reached reaches pairBefore
 card-under s object i b l =
     rw (card-object s i b l, le-ltb (numberAt cardBytes s i) 0 (omega arith)) (go (ltb (objectAt cardBytes s i) object) (eqb (objectAt cardBytes s i) object))

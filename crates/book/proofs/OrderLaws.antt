@@ -89,7 +89,7 @@ unfolding neighbours
 follows-empty n s e = rw (e, decodeBook-none decodeExtent 33 s) refl
 
 -- the objects of two cards
-pub cards-pair : (s : List ℕ) (i a b : ℕ) → a ≡ decodeCard (part (32 * (i - 1)) cardBytes s) .object → b ≡ decodeCard (part (32 * i) cardBytes s) .object
+pub cards-pair : (s : List ℕ) (i a b : ℕ) → a ≡ decodeCard (part (cardBytes * (i - 1)) cardBytes s) .object → b ≡ decodeCard (part (cardBytes * i) cardBytes s) .object
     → ltb a b ≡ cardBefore (recordAt decodeCard cardBytes s (i - 1)) (recordAt decodeCard cardBytes s i)
 unfolding recordAt cardBefore
 cards-pair s i a b p q = rw (p, q) refl

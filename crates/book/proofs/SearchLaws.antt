@@ -213,7 +213,7 @@ floor-extent object block n s r h = record { place = h .place; found = h .found;
 -- ---- the tests of one record
 
 module _ (s : List ℕ) (i object : ℕ) where
-  module _ (x : ℕ) (e : x ≡ decodeCard (part (32 * i) cardBytes s) .object) where
+  module _ (x : ℕ) (e : x ≡ decodeCard (part (cardBytes * i) cardBytes s) .object) where
     -- an object that was read is that of the record
     card-object : x ≡ recordAt decodeCard cardBytes s i .object
     unfolding recordAt

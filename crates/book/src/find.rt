@@ -13,9 +13,9 @@ ghost use Rattle.rules.specs.Book.{decodeBook};
 ghost use Rattle.halving.specs.Halving.{Parted};
 ghost use Rattle.book.specs.Places.{recordAt, FoundFirst, FloorExtent, SearchedBook, reachedAt, leading, cardIs, cardUnder, extentUnder, groupIs, groupUnder};
 use super::Found;
+use checksum_group::GROUP_BYTES;
 use format::card::CARD_BYTES;
 use format::extent::EXTENT_BYTES;
-use format::group::GROUP_BYTES;
 
 // Whether the card at place `i` is that of `object`.
 fn card_is(s: &[u8], i: usize, object: u64) -> bool
@@ -46,10 +46,10 @@ fn group_is(s: &[u8], i: usize, object: u64, number: u64) -> bool
     ensures { λ r. ⌜ r ≡ groupIs object number (recordAt decodeGroup groupBytes (now (s .entry)) i) ⌝ }
 {
     let at = GROUP_BYTES * i;
-    if format::group::group_object(s, at) != object {
+    if checksum_group::group_object(s, at) != object {
         return false;
     }
-    format::group::group_number(s, at) == number
+    checksum_group::group_number(s, at) == number
 }
 
 // The group with this key among the first `n`.

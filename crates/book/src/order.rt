@@ -12,10 +12,10 @@ ghost use Rattle.rules.specs.Book.{decodeBook, zeroBehind};
 ghost use Rattle.rules.specs.Integrity.{apart};
 ghost use Rattle.format.specs.Records.{extentOf};
 ghost use Rattle.book.specs.Places.{recordAt, follows};
+use checksum_group::GROUP_BYTES;
 use format::card::CARD_BYTES;
 use format::extent::EXTENT_BYTES;
 use format::extent::Extent;
-use format::group::GROUP_BYTES;
 
 // So many bytes are looked at together; the first stretch that is not zero ends the test.
 const STRETCH: usize = 4096;
@@ -79,10 +79,10 @@ pub fn group_follows(s: &[u8], i: usize) -> bool
     let a = GROUP_BYTES * (i - 1);
     let b = GROUP_BYTES * i;
     format::key::before(
-        format::group::group_object(s, a),
-        format::group::group_number(s, a),
-        format::group::group_object(s, b),
-        format::group::group_number(s, b),
+        checksum_group::group_object(s, a),
+        checksum_group::group_number(s, a),
+        checksum_group::group_object(s, b),
+        checksum_group::group_number(s, b),
     )
 }
 

@@ -8,9 +8,9 @@ ghost use Rattle.rules.specs.Card.{cardBytes};
 ghost use Rattle.rules.specs.Extent.{extentBytes};
 ghost use Rattle.rules.specs.Group.{groupBytes};
 ghost use Rattle.book.specs.Places.{Spliced};
+use checksum_group::GROUP_BYTES;
 use format::card::CARD_BYTES;
 use format::extent::EXTENT_BYTES;
-use format::group::GROUP_BYTES;
 
 // The bytes from `b` to `e` go down to `t`, and zeros stand behind them up to `e`.
 fn move_down(s: &mut [u8], b: usize, e: usize, t: usize)

@@ -39,14 +39,15 @@ use Rattle.finish_books.specs.Buffers.{NewInside, OldInside, CardsRight}
 use Rattle.finish_books.specs.Groups.{groupsIn, GroupsRight, UnitsRight}
 use Rattle.finish_extents.specs.Stretch.{Describes, Finished, Planned, Written, WholeBook}
 use Rattle.file.specs.Change.{numbered}
-use Rattle.file.specs.Fit.{Fits}
+use Rattle.finish_fit.specs.Fits.{Fits}
 use Rattle.file.specs.Flat.{flatBlocks, AllWhole}
 use Rattle.file.specs.Room.{RoomFor}
 use Rattle.file.specs.Out.{PlanTold, StoreLeft}
 use Rattle.file.proofs.FlatLaws.{all-whole}
 use Rattle.file.proofs.PartLaws.{describes, kept-in, old-in}
 use Rattle.file.proofs.CarryLaws.{Told, flat-told, cards-ready, extents-ready, card-ready}
-use Rattle.file.proofs.FitLaws.{extents-fit, books-fit, fit-refused, fit-carried}
+use Rattle.file.proofs.FitLaws.{fit-refused, fit-carried}
+use Rattle.finish_fit.proofs.FitLaws.{extents-fit, books-fit}
 use Rattle.file.proofs.OutLaws.{plan-told}
 use Rattle.file.proofs.ReadyLaws.{groups-ready, room-ready, left-ready, extents-left-ready, made-ready, flat-most}
 use Rattle.change.specs.Change.{changeOf}

@@ -15,11 +15,11 @@ ghost use Rattle.mapping.specs.Entries.{extentsIn, ExtentsRight};
 ghost use Rattle.finish_books.specs.Groups.{groupsIn, UnitsRight};
 ghost use Rattle.finish_extents.specs.Stretch.{Planned};
 ghost use Rattle.file.specs.Change.{numbered};
-ghost use Rattle.file.specs.Fit.{Fits};
+ghost use Rattle.finish_fit.specs.Fits.{Fits};
 ghost use Rattle.file.specs.Flat.{flatBlocks};
 ghost use Rattle.change.specs.Carry.{CarryReady, CarryFor};
-use file::fit::Fit;
 use finish_extents::Exchange;
+use finish_fit::Fit;
 use format::sizes::BLOCK_BYTES;
 use format::sizes::UNIT_BLOCKS;
 use rewrite::Change;
@@ -65,7 +65,7 @@ fn fit_change(
             },
         };
     }
-    file::fit::fit_books(extents, e, groups, g, object, units, blocks, made)
+    finish_fit::fit_books(extents, e, groups, g, object, units, blocks, made)
 }
 
 // The units of a plan carried out, or 15 or 16: the arrays have what was looked up of them and what each keeps and is given. `made` has room for the

@@ -1,10 +1,2 @@
-pub mod XorLaws
-pub mod RegisterLaws
-pub mod Division
-pub mod TableRule
 pub mod Running
-pub mod HistoryLaws
-pub mod Multiple
-pub mod LatestLaws
-pub mod WindowLaws
 pub mod UnitLaws

@@ -10,10 +10,10 @@ use Rattle.rules.specs.Crc32c.{crc32c}
 use Rattle.rules.specs.Checksum.{unitChecksum}
 use Rattle.rules.proofs.ByteLaws.{length-beDigits, bytes-beDigits, bytes-append, patch-patch}
 use Rattle.words.proofs.NumberLaws.{patch-whole}
-use Rattle.crc32c.specs.Register.{fed, begun, finished}
+use Rattle.crc32c_tables.specs.Register.{fed, begun, finished}
 use Rattle.crc32c.specs.Unit.{before}
-use Rattle.crc32c.proofs.RegisterLaws.{fed-append}
-use Rattle.crc32c.proofs.Division.{crc32c-fed}
+use Rattle.crc32c_tables.proofs.RegisterLaws.{fed-append}
+use Rattle.crc32c_tables.proofs.Division.{crc32c-fed}
 
 -- one part more
 pub fed-more : (c d : ℕ) (xs ys : List ℕ) → c ≡ fed begun xs → d ≡ fed c ys → d ≡ fed begun (xs ++ ys)

@@ -7,12 +7,12 @@ use lib.ListN.{length}
 use Rattle.rules.specs.Bytes.{Bytes}
 use Rattle.rules.specs.Checksum.{unitChecksum}
 use Rattle.rules.proofs.ByteLaws.{bytes-nil, bytes-append}
-use Rattle.crc32c.specs.Register.{fed, begun, finished}
-use Rattle.crc32c.specs.Window.{registerAt}
+use Rattle.crc32c_tables.specs.Register.{fed, begun, finished}
+use Rattle.crc32c_window.specs.Window.{registerAt}
 use Rattle.crc32c.specs.Unit.{before, registerOf, UnitFed}
 use Rattle.crc32c.specs.declared.unit.Running.{Running}
 use Rattle.crc32c.specs.declared.unit.Running.the-variants.{Register, Window}
-use Rattle.crc32c.proofs.RegisterLaws.{fed-append}
+use Rattle.crc32c_tables.proofs.RegisterLaws.{fed-append}
 use Rattle.crc32c.proofs.Running.{crc-unit}
 
 -- ---- any state, by its register

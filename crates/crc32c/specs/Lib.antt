@@ -1,3 +1,1 @@
-pub mod Register
-pub mod Window
 pub mod Unit

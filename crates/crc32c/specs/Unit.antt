@@ -4,8 +4,8 @@ use mathlib.Core.Path.{_≡_}
 use mathlib.Core.List.{List, _++_}
 use Prim.Native.Nat.{ℕ}
 use Rattle.rules.specs.Bytes.{beDigits, Bytes}
-use Rattle.crc32c.specs.Register.{fed, begun}
-use Rattle.crc32c.specs.Window.{registerAt}
+use Rattle.crc32c_tables.specs.Register.{fed, begun}
+use Rattle.crc32c_window.specs.Window.{registerAt}
 use Rattle.crc32c.specs.declared.unit.Running as running
 use Rattle.crc32c.specs.declared.unit.Running.the-variants.{Register, Window}
 

@@ -7,7 +7,7 @@ ghost use mathlib.Core.List.{List, [], _++_};
 ghost use Prim.Native.Nat.{ℕ};
 ghost use lib.ListN.{length};
 ghost use Rattle.rules.specs.Checksum.{unitChecksum};
-ghost use Rattle.crc32c.specs.Register.{Tables};
+ghost use Rattle.crc32c_tables.specs.Register.{Tables};
 ghost use Rattle.crc32c.specs.Unit.{UnitFed};
 
 // Where the register is.
@@ -33,7 +33,7 @@ pub fn begin(
     if valid < 1024 {
         return Running::Register(c);
     }
-    super::window::set_register(w, c);
+    crc32c_window::set_register(w, c);
     Running::Window
 }
 
@@ -46,7 +46,7 @@ pub fn feed(t: &[u32; 4096], w: &mut [u8], state: Running, s: &[u8]) -> Running
     match state {
         Running::Register(c) => Running::Register(super::feed(t, c, s)),
         Running::Window => {
-            super::window::push(w, s);
+            crc32c_window::push(w, s);
             Running::Window
         }
     }
@@ -60,6 +60,6 @@ pub fn finish(t: &[u32; 4096], w: &[u8], state: Running) -> u32
 {
     match state {
         Running::Register(c) => super::finish(c),
-        Running::Window => super::finish(super::window::register(t, w)),
+        Running::Window => super::finish(crc32c_window::register(t, w)),
     }
 }

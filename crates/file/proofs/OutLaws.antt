@@ -18,7 +18,7 @@ use Rattle.rewrite.specs.Plan.{laidUnits}
 use Rattle.finish_units.specs.Carry.{UnitsFit, CarriesFor}
 use Rattle.finish_books.specs.Groups.{groupsIn}
 use Rattle.file.specs.Books.{MapsLeft, ExtentsLeft, RecordsLeft}
-use Rattle.file.specs.Fit.{Fits}
+use Rattle.finish_fit.specs.Fits.{Fits}
 use Rattle.file.specs.Out.{PlanTold, StoreLeft}
 use Rattle.file.proofs.CarryLaws.{Given, Told, carried-store}
 

@@ -24,11 +24,11 @@ use Rattle.rules.proofs.PassLaws.{each-passed, Passes, passes-whole, lawful-dec
 use Rattle.finish_books.specs.Groups.{groupsIn, setSlots, GroupsRight}
 use Rattle.finish_books.proofs.GroupListLaws.{with-keeps, with-has, slots-with, slots-length, finished-slots}
 use Rattle.finish_extents.specs.Stretch.{Describes, Written}
-use Rattle.file.specs.Fit.{Fits}
+use Rattle.finish_fit.specs.Fits.{Fits}
 use Rattle.file.specs.Flat.{flatBlocks}
 use Rattle.file.specs.Room.{RoomFor}
 use Rattle.file.proofs.CarryLaws.{extents-room, groups-room}
-use Rattle.file.proofs.FitLaws.{fit-groups, fit-extents}
+use Rattle.finish_fit.proofs.FitLaws.{fit-groups, fit-extents}
 
 -- ---- the groups
 

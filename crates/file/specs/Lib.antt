@@ -1,7 +1,6 @@
 pub mod Change
 pub mod Flat
 pub mod LookUp
-pub mod Fit
 pub mod Room
 pub mod Books
 pub mod Out

@@ -50,7 +50,7 @@ pub fn carry_data(
     ensures { λ _. ⌜ ((limit : ℕ) (v : Volume) (c : Change) → CarriesFor limit v c (now (image .entry)) (now (uuid .entry)) object «old_size» «new_size» offset (now (bytes .entry)) (now (units .entry)) (now (slots .entry)) (now (old .entry)) (now (kept .entry)) (now (blocks .entry)) → now (image .exit) ≡ finishedImage (laidUnits limit v c (now (units .entry)) (now (blocks .entry))) (now (image .entry))) ⌝ }
     ensures { λ _. ⌜ ((limit : ℕ) (v : Volume) (c : Change) → CarriesFor limit v c (now (image .entry)) (now (uuid .entry)) object «old_size» «new_size» offset (now (bytes .entry)) (now (units .entry)) (now (slots .entry)) (now (old .entry)) (now (kept .entry)) (now (blocks .entry)) → now (groups .exit) ≡ encodeBook encodeGroup (length (now (groups .entry))) (finishedGroups object (laidUnits limit v c (now (units .entry)) (now (blocks .entry))) (groupsIn g (now (groups .entry))))) ⌝ }
 {
-    let t = crc32c::tables();
+    let t = crc32c_tables::tables();
     let mut crcs = [0u32; 18];
     finish_units::write_units(
         &t,

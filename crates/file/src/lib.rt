@@ -1,10 +1,8 @@
-// A change to a file: its tests, what is looked up for its plan, the plan, whether the books that it leaves fit, and what is stored where it is
-// carried out.
+// A change to a file: its tests, what is looked up for its plan, the plan, and what is stored where it is carried out.
 pub mod carry;
 pub mod carry_books;
 pub mod carry_data;
 pub mod carry_out;
-pub mod fit;
 pub mod lookup;
 pub mod plan;
 pub mod tests;

@@ -39,7 +39,7 @@ fn plan_units(
     ensures { λ r. ⌜ (r .skip ≤ length (now (units .entry))) × (r .allocated ≤ mostAllocated) ⌝ }
     ensures { λ r. ⌜ ((v : Volume) (c : rules.Change) → PlanFor (now (image .entry)) (now (uuid .entry)) (now (used .entry)) (length (now (image .entry)) / blockBytes) object change (now (units .entry)) (now (slots .entry)) (now (old .entry)) v c → UnitsSettled limit v c (now (units .entry)) (fromCard hint allocated) (now (kept .exit)) (now (blocks .exit)) r) ⌝ }
 {
-    let t = crc32c::tables();
+    let t = crc32c_tables::tables();
     let mut w = [0u8; 4624];
     let mut map = [0u8; MAP_BYTES];
     let n = used.len();

@@ -1,6 +1,6 @@
 -- Laws of the card book after a change.
 -- Assumes nothing.
-use mathlib.Core.Path.{_≡_, sym, ap, _∙_}
+use mathlib.Core.Path.{_≡_, refl, sym, ap, _∙_}
 use mathlib.Core.List.{List}
 use mathlib.Core.Bool.{true, false}
 use Prim.Native.Nat.{ℕ, _*_, _^_, _<_}
@@ -8,7 +8,7 @@ use native.Mathlib.Omega.{arith}
 use borrow.Author.Tests.{eqb-true, ne-eqb, ltb-true, lt-ltb}
 use lib.ListN.{length, getD, set}
 use Rattle.rules.specs.Lists.{any, given, ascending}
-use Rattle.rules.specs.Bytes.{Bytes, patch}
+use Rattle.rules.specs.Bytes.{Bytes, part, patch}
 use Rattle.rules.specs.Time.{Time}
 use Rattle.rules.specs.Card.{Card, cardBytes, decodeCard, encodeCard, cardSpareZero, cardBefore}
 use Rattle.rules.specs.Book.{decodeBook, encodeBook}
@@ -16,13 +16,14 @@ use Rattle.rules.specs.Units.{Change}
 use Rattle.rules.specs.Finish.{changedCard, finishedCards}
 use Rattle.rules.proofs.ListLaws.{clash, find-passes, find-given}
 use Rattle.rules.proofs.BookLaws.{Whole, length-decodeBook, getD-decodeBook}
-use Rattle.rules.proofs.CardLaws.{encode-decodeCard, decode-encodeCard, length-encodeCard, spare-encodeCard}
-use Rattle.rules.proofs.CardLaws as cards
+use Rattle.rules.proofs.CardLaws.{encode-decodeCard, decode-encodeCard, fits-decodeCard, length-encodeCard, spare-encodeCard}
+use Rattle.rules.proofs.CardLaws as rules
 use Rattle.book.specs.Places.{recordAt, foundIn, placeOf, cardIs, FoundFirst}
 use Rattle.book.specs.declared.Found.{Found}
 use Rattle.book.specs.declared.Found.the-variants.{At, Nothing}
 use Rattle.format.specs.declared.card.Card as struct
 use Rattle.format.specs.Records.{cardOf, CardFits}
+use Rattle.format.proofs.RecordLaws.{fits-said}
 use Rattle.finish_books.specs.Buffers.{CardsRight}
 use Rattle.finish_books.proofs.PutLaws.{put-book, map-one}
 
@@ -59,33 +60,39 @@ module _ (c : Change) (allocated : ℕ) (time : Time) where
   unfolding finishedCards
   cards-set cs i d a l t = map-one cardBefore (cardIs (c .object)) (changedCard (c .newSize) allocated time) before-trans (other-card (c .object)) cs i d a l t
 
--- the struct's fields fit where the card's do
-card-fits : (k : struct.Card) → k .object < 2 ^ 64 → CardFits k → cards.CardFits (cardOf k)
-unfolding cardOf
-card-fits k o f = record { object = o; size = f .size; allocated = f .allocated; seconds = f .seconds; nanoseconds = f .nanoseconds }
+-- the struct that is written says the card that was read, changed
+pub change-put : (size allocated : ℕ) (time : Time) (s t : List ℕ) (i : ℕ) (c d : struct.Card) → cardOf c ≡ decodeCard (part (cardBytes * i) cardBytes s) → cardOf d ≡ changedCard size allocated time (cardOf c)
+    → t ≡ patch s (cardBytes * i) (encodeCard (cardOf d)) → t ≡ patch s (cardBytes * i) (encodeCard (changedCard size allocated time (recordAt decodeCard cardBytes s i)))
+unfolding recordAt
+change-put size allocated time s t i c d p q r = r ∙ ap (λ (k : Card). patch s (cardBytes * i) (encodeCard k)) (q ∙ ap (changedCard size allocated time) p)
 
--- the card that is written is the old one changed
-new-card : (k : struct.Card) (size : ℕ) (d : Card) → d .object ≡ k .object → size ≡ k .size
-    → cardOf k ≡ changedCard size (k .allocated) (record { seconds = k .seconds; nanoseconds = k .nanoseconds }) d
-unfolding cardOf changedCard
-new-card k size d p q =
-    λ i. record { object = sym p i; size = sym q i; allocated = k .allocated; changed = record { seconds = k .seconds; nanoseconds = k .nanoseconds } }
+-- what a change sets
+module _ (size allocated : ℕ) (time : Time) (z : size < 2 ^ 63) (a : allocated < 2 ^ 35) (m : time .seconds < 2 ^ 63) (n : time .nanoseconds < 2 ^ 30) where
+  -- a card that was read and changed is in range
+  changed-in-range : (s : List ℕ) → rules.CardFits (changedCard size allocated time (decodeCard s))
+  unfolding changedCard
+  changed-in-range s =
+      let f : rules.CardFits (decodeCard s) = fits-decodeCard s in
+      record { object = f .object; size = z; allocated = a; changed = record { seconds = m; nanoseconds = n }; created = f .created }
 
--- a card written at its place leaves the changed cards
-pub card-written : (k : struct.Card) (n i : ℕ) (s t : List ℕ) → CardsRight n s → k .object < 2 ^ 64 → CardFits k → i < n → cardIs (k .object) (recordAt decodeCard cardBytes s i) ≡ true
-    → Bytes t → t ≡ patch s (32 * i) (encodeCard (cardOf k)) → (c : Change) → c .object ≡ k .object → c .newSize ≡ k .size
-    → t ≡ encodeBook encodeCard (length s) (finishedCards c (k .allocated) (record { seconds = k .seconds; nanoseconds = k .nanoseconds }) (decodeBook decodeCard cardBytes n s))
-card-written k n i s t r o g l h b q c eo es =
-    let f : cards.CardFits (cardOf k) = card-fits k o g in
-    let cs : List Card = decodeBook decodeCard cardBytes n s in
-    let time : Time = record { seconds = k .seconds; nanoseconds = k .nanoseconds } in
-    let d : Card = cardOf k in
-    let w : Whole cardBytes n cardSpareZero s = record { places = r .places; zeros = r .zeros; records = r .spare } in
-    let m : t ≡ encodeBook encodeCard (length s) (set cs i (decodeCard (encodeCard (cardOf k)))) =
-    put-book encodeCard decodeCard cardBytes cardSpareZero encode-decodeCard n i s (encodeCard (cardOf k)) t w l (length-encodeCard (cardOf k)) (spare-encodeCard (cardOf k) f) b q in
-    let there : getD cs i d ≡ recordAt decodeCard cardBytes s i = unfold recordAt in getD-decodeBook decodeCard cardBytes n s i d l in
-    let mine : cardIs (c .object) (getD cs i d) ≡ true = rw (there, eo) h in
-    let object : getD cs i d .object ≡ k .object = rw there (eqb-true (recordAt decodeCard cardBytes s i .object) (k .object) h) in
-    let new : cardOf k ≡ changedCard (c .newSize) (k .allocated) time (getD cs i d) = new-card k (c .newSize) (getD cs i d) object es in
-    m ∙ ap (encodeBook encodeCard (length s))
-    (rw (decode-encodeCard (cardOf k) f) (ap (set cs i) new ∙ sym (cards-set c (k .allocated) time cs i d (r .order) (rw (length-decodeBook decodeCard cardBytes n s) l) mine)))
+  -- so is the struct that says it
+  pub changed-fits : (s : List ℕ) (c d : struct.Card) → cardOf c ≡ decodeCard s → cardOf d ≡ changedCard size allocated time (cardOf c) → CardFits d
+  changed-fits s c d p e = fits-said d (changedCard size allocated time (decodeCard s)) (e ∙ ap (changedCard size allocated time) p) (changed-in-range s)
+
+  -- a changed card, written over the one that was read, leaves the changed cards
+  pub card-written : (object k i : ℕ) (s t : List ℕ) → CardsRight k s → i < k → cardIs object (recordAt decodeCard cardBytes s i) ≡ true
+      → Bytes t → t ≡ patch s (cardBytes * i) (encodeCard (changedCard size allocated time (recordAt decodeCard cardBytes s i))) → (c : Change) → c .object ≡ object → c .newSize ≡ size
+      → t ≡ encodeBook encodeCard (length s) (finishedCards c allocated time (decodeBook decodeCard cardBytes k s))
+  card-written object k i s t r l h b q c eo es =
+      let old : Card = recordAt decodeCard cardBytes s i in
+      let new : Card = changedCard size allocated time old in
+      let f : rules.CardFits new = unfold recordAt in changed-in-range (part (cardBytes * i) cardBytes s) in
+      let cs : List Card = decodeBook decodeCard cardBytes k s in
+      let w : Whole cardBytes k cardSpareZero s = record { places = r .places; zeros = r .zeros; records = r .spare } in
+      let put : t ≡ encodeBook encodeCard (length s) (set cs i (decodeCard (encodeCard new))) =
+      put-book encodeCard decodeCard cardBytes cardSpareZero encode-decodeCard k i s (encodeCard new) t w l (length-encodeCard new) (spare-encodeCard new f) b q in
+      let there : getD cs i old ≡ old = unfold recordAt in getD-decodeBook decodeCard cardBytes k s i old l in
+      let mine : cardIs (c .object) (getD cs i old) ≡ true = rw (there, eo) h in
+      let same : new ≡ changedCard (c .newSize) allocated time (getD cs i old) = rw (there, es) refl in
+      put ∙ ap (encodeBook encodeCard (length s))
+      (rw (decode-encodeCard new f) (ap (set cs i) same ∙ sym (cards-set c allocated time cs i old (r .order) (rw (length-decodeBook decodeCard cardBytes k s) l) mine)))

@@ -19,7 +19,7 @@ use Rattle.rules.proofs.ListLaws.{each-of, each-at, and-left, and-right}
 use Rattle.rules.proofs.ByteLaws.{length-beDigits, length-leDigits, getD-part, bytes-part, length-part, drop-take, patch-part, patch-before, part-patch-before, part-patch, patch-again, length-patch}
 use Rattle.rules.proofs.BitLaws.{length-bitBytes, bytes-bitBytes, bitSet-bitBytes, bits-ext}
 use Rattle.rules.proofs.GroupLaws.{GroupFits, slotValue, encode-decodeGroup, fits-decodeGroup}
-use Rattle.format.proofs.SlotLaws.{set-here, set-there}
+use Rattle.checksum_group.proofs.SlotLaws.{set-here, set-there}
 use Rattle.words.proofs.NumberLaws.{patch-whole}
 use Rattle.words.proofs.RangeLaws.{set-patch}
 use Rattle.finish_books.specs.Groups.{groupRight}

@@ -18,10 +18,10 @@ ghost use Rattle.rules.specs.Finish.{finishedGroups};
 ghost use Rattle.book.specs.Places.{recordAt, groupIs};
 ghost use Rattle.finish_books.specs.Groups.{groupsIn, groupRight, GroupsRight, GroupsSay, AllThere, UnitsRight, StretchFrom, Gone, MissingOf, MissingFor, PlaceKnown, added, setSlots};
 use book::Found;
-use format::group::GROUP_BYTES;
-use format::group::PRESENCE_AT;
-use format::group::SLOT_BYTES;
-use format::group::SLOTS_AT;
+use checksum_group::GROUP_BYTES;
+use checksum_group::PRESENCE_AT;
+use checksum_group::SLOT_BYTES;
+use checksum_group::SLOTS_AT;
 use format::sizes::GROUP_UNITS;
 
 // Units of a group, as units are counted.
@@ -49,7 +49,7 @@ fn add_one(groups: &mut [u8], n: usize, object: u64, number: u64)
     ensures { λ _. ⌜ GroupsSay (n + 1) (length (now (groups .entry))) (added object number 1 (groupsIn n (now (groups .entry)))) (now (groups .exit)) ⌝ }
 {
     let mut x = [0u8; GROUP_BYTES];
-    format::group::group_key(&mut x, 0, object, number);
+    checksum_group::group_key(&mut x, 0, object, number);
     let i = book::find::first_group(groups, n, object, number);
     book::splice::splice_groups(groups, n, i, 0, &x, 1);
 }
@@ -62,8 +62,8 @@ fn add_two(groups: &mut [u8], n: usize, object: u64, number: u64)
     ensures { λ _. ⌜ GroupsSay (n + 2) (length (now (groups .entry))) (added object number 2 (groupsIn n (now (groups .entry)))) (now (groups .exit)) ⌝ }
 {
     let mut x = [0u8; TWO_GROUPS];
-    format::group::group_key(&mut x, 0, object, number);
-    format::group::group_key(&mut x, GROUP_BYTES, object, number + 1);
+    checksum_group::group_key(&mut x, 0, object, number);
+    checksum_group::group_key(&mut x, GROUP_BYTES, object, number + 1);
     let i = book::find::first_group(groups, n, object, number);
     book::splice::splice_groups(groups, n, i, 0, &x, 2);
 }

@@ -14,7 +14,7 @@ ghost use Rattle.rules.specs.Units.{Change, validLength};
 ghost use Rattle.rules.specs.Finish.{writeNew};
 ghost use Rattle.mapping.specs.Entries.{entries, Inside};
 ghost use Rattle.kept.specs.Change.{IsChange, ChangeFits, coversNew};
-ghost use Rattle.crc32c.specs.Register.{Tables};
+ghost use Rattle.crc32c_tables.specs.Register.{Tables};
 ghost use Rattle.rewrite.specs.Plan.{laidUnits};
 ghost use Rattle.finish_units.specs.Units.{heldCount, newBytes, UnitWritten};
 ghost use Rattle.finish_units.specs.Carry.{UnitsFit, CarriesFor, WrittenAt, CarriedOut};

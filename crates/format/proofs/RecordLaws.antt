@@ -1,9 +1,9 @@
 -- Laws of records read at their place and written there: each is what one function of the code has in hand when it returns.
 -- Assumes nothing.
 use mathlib.Core.Path.{_≡_, refl, sym, ap, _∙_}
-use mathlib.Core.Bool.{Bool, true, false, _&&_}
+use mathlib.Core.Bool.{false, _&&_}
 use mathlib.Core.List.{List, [], _∷_, _++_, append-assoc}
-use Prim.Native.Nat.{ℕ, _+_, _-_, _*_, _≤_}
+use Prim.Native.Nat.{ℕ, _+_, _-_, _*_, _^_, _≤_, _<_}
 use native.Mathlib.Nat.{add-zero}
 use native.Mathlib.Omega.{arith}
 use borrow.Author.Tests.{eqb-true, eq-eqb, ne-eqb}
@@ -12,16 +12,18 @@ use lib.ListN.{length, take, drop, getD, replicate, length-append, length-drop, 
 use lib.Seq.{take-all}
 use Rattle.rules.specs.Bytes.{be, le, beDigits, leDigits, part, patch, unpack, allZero}
 use Rattle.rules.specs.Head.{headBytes, uuidBytes, headWidths, headFields, decodeHead}
+use Rattle.rules.specs.Card as rules
 use Rattle.rules.specs.Card.{cardBytes, cardWidths, cardFields, decodeCard}
 use Rattle.rules.specs.Extent.{extentBytes, extentKey, decodeExtent, encodeExtent, extentFixed}
 use Rattle.rules.specs.Lists.{all}
 use Rattle.rules.proofs.ListLaws.{and-left, and-right, and-intro}
 use Rattle.rules.proofs.ScanLaws.{same-test}
 use Rattle.rules.proofs.ByteLaws.{length-beDigits, length-leDigits, length-part, getD-part, part-part, patch-patch}
+use Rattle.rules.proofs.CardLaws as laws
 use Rattle.rules.proofs.FieldLaws.{Fit, fit-at, fit-unpack}
-use Rattle.words.specs.Fields.{headValues, cardValues}
-use Rattle.words.specs.declared.field.Head.{Head as HeadValues}
-use Rattle.words.specs.declared.field.Card.{Card as CardValues}
+use Rattle.fields.specs.Fields.{headValues, cardValues}
+use Rattle.fields.specs.declared.Head.{Head as HeadValues}
+use Rattle.fields.specs.declared.Card.{Card as CardValues}
 use Rattle.words.proofs.NumberLaws.{patch-whole}
 use Rattle.format.specs.declared.head.Head.{Head}
 use Rattle.format.specs.declared.card.Card.{Card}
@@ -111,21 +113,61 @@ module _ (s : List ℕ) (at : ℕ) where
   -- ---- cards
 
   -- a card's fields, read
-  pub card-read : (f : CardValues) (c : Card) → cardValues f ≡ unpack cardWidths (be (part at 32 s))
+  pub card-read : (f : CardValues) (c : Card) → cardValues f ≡ unpack cardWidths (be (part at cardBytes s))
       → c .object ≡ f .object → c .size ≡ f .size → c .allocated ≡ f .allocated → c .seconds ≡ f .seconds → c .nanoseconds ≡ f .nanoseconds
+      → c .«created_seconds» ≡ f .«created_seconds» → c .«created_nanoseconds» ≡ f .«created_nanoseconds»
       → cardOf c ≡ decodeCard (part at cardBytes s)
   unfolding cardOf decodeCard cardFields
-  card-read f c v o z a t n =
-      (λ i. record { object = o i; size = z i; allocated = a i; changed = record { seconds = t i; nanoseconds = n i } })
-      ∙ (λ i. record { object = getD (v i) 0 0; size = getD (v i) 1 0; allocated = getD (v i) 2 0; changed = record { seconds = getD (v i) 3 0; nanoseconds = getD (v i) 4 0 } })
+  card-read f c v o z a t n x y =
+      (λ i. record { object = o i; size = z i; allocated = a i; changed = record { seconds = t i; nanoseconds = n i }; created = record { seconds = x i; nanoseconds = y i } })
+      ∙ (λ i. record {
+        object = getD (v i) 0 0;
+        size = getD (v i) 1 0;
+        allocated = getD (v i) 2 0;
+        changed = record { seconds = getD (v i) 3 0; nanoseconds = getD (v i) 4 0 };
+        created = record { seconds = getD (v i) 5 0; nanoseconds = getD (v i) 6 0 };
+      })
 
   -- they are within their widths
-  pub card-fits : (f : CardValues) (c : Card) → cardValues f ≡ unpack cardWidths (be (part at 32 s))
-      → c .size ≡ f .size → c .allocated ≡ f .allocated → c .seconds ≡ f .seconds → c .nanoseconds ≡ f .nanoseconds → CardFits c
-  card-fits f c v z a t n =
-      let g : Fit cardWidths (unpack cardWidths (be (part at 32 s))) = fit-unpack cardWidths (be (part at 32 s)) in
+  pub card-fits : (f : CardValues) (c : Card) → cardValues f ≡ unpack cardWidths (be (part at cardBytes s))
+      → c .size ≡ f .size → c .allocated ≡ f .allocated → c .seconds ≡ f .seconds → c .nanoseconds ≡ f .nanoseconds
+      → c .«created_seconds» ≡ f .«created_seconds» → c .«created_nanoseconds» ≡ f .«created_nanoseconds» → CardFits c
+  card-fits f c v z a t n x y =
+      let g : Fit cardWidths (unpack cardWidths (be (part at cardBytes s))) = fit-unpack cardWidths (be (part at cardBytes s)) in
       let fit : Fit cardWidths (cardValues f) = rw v g in
-      record { size = rw z (fit-at fit 1 (omega arith)); allocated = rw a (fit-at fit 2 (omega arith)); seconds = rw t (fit-at fit 3 (omega arith)); nanoseconds = rw n (fit-at fit 4 (omega arith)) }
+      record {
+        size = rw z (fit-at fit 1 (omega arith));
+        allocated = rw a (fit-at fit 2 (omega arith));
+        seconds = rw t (fit-at fit 3 (omega arith));
+        nanoseconds = rw n (fit-at fit 4 (omega arith));
+        created-seconds = rw x (fit-at fit 5 (omega arith));
+        created-nanoseconds = rw y (fit-at fit 6 (omega arith));
+      }
+
+-- the card that it says is in range
+pub card-in-range : (c : Card) → c .object < 2 ^ 64 → CardFits c → laws.CardFits (cardOf c)
+unfolding cardOf
+card-in-range c o f = record {
+  object = o;
+  size = f .size;
+  allocated = f .allocated;
+  changed = record { seconds = f .seconds; nanoseconds = f .nanoseconds };
+  created = record { seconds = f .created-seconds; nanoseconds = f .created-nanoseconds };
+}
+
+-- a struct that says a card in range has its fields within their widths
+pub fits-said : (c : Card) (k : rules.Card) → cardOf c ≡ k → laws.CardFits k → CardFits c
+unfolding cardOf
+fits-said c k e f =
+    let g : laws.CardFits (cardOf c) = rw e f in
+    record {
+      size = g .size;
+      allocated = g .allocated;
+      seconds = g .changed .seconds;
+      nanoseconds = g .changed .nanoseconds;
+      created-seconds = g .created .seconds;
+      created-nanoseconds = g .created .nanoseconds;
+    }
 
 -- ---- the head
 

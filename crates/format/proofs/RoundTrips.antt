@@ -9,15 +9,13 @@ use lib.ListN.{length}
 use Rattle.rules.specs.Bytes.{Bytes, part, patch}
 use Rattle.rules.specs.Card.{cardBytes, decodeCard, encodeCard, cardSpareZero}
 use Rattle.rules.specs.Extent.{extentBytes, decodeExtent, encodeExtent, extentFixed}
-use Rattle.rules.specs.Group.{Group, groupBytes, decodeGroup, encodeGroup, groupFixed, absentZero}
 use Rattle.rules.proofs.ByteLaws.{bytes-part, length-part, part-patch, patch-part}
 use Rattle.rules.proofs.CardLaws.{decode-encodeCard, encode-decodeCard, length-encodeCard}
 use Rattle.rules.proofs.ExtentLaws.{decode-encodeExtent, encode-decodeExtent, length-encodeExtent}
-use Rattle.rules.proofs.GroupLaws.{GroupFits, decode-encodeGroup, encode-decodeGroup, length-encodeGroup}
 use Rattle.format.specs.declared.card.Card.{Card}
 use Rattle.format.specs.declared.extent.Extent.{Extent}
-use Rattle.format.specs.declared.group.ChecksumGroup.{ChecksumGroup}
-use Rattle.format.specs.Records.{cardOf, CardFits, extentOf, groupOf}
+use Rattle.format.specs.Records.{cardOf, CardFits, extentOf}
+use Rattle.format.proofs.RecordLaws.{card-in-range}
 
 module _ {A : Type 0} (encode : A → List ℕ) (decode : List ℕ → A) (w : ℕ) (s : List ℕ) (at : ℕ) (l : at + w ≤ length s) where
   -- what is written at a place is read there
@@ -47,10 +45,8 @@ module _ (s : List ℕ) (at : ℕ) where
   -- a card that is written is read
   pub card-back : (c : Card) → at + cardBytes ≤ length s → c .object < 2 ^ 64 → CardFits c
       → decodeCard (part at cardBytes (patch s at (encodeCard (cardOf c)))) ≡ cardOf c
-  unfolding cardOf
   card-back c l o f =
-      read-written encodeCard decodeCard cardBytes s at l (cardOf c) (length-encodeCard (cardOf c))
-      (decode-encodeCard (cardOf c) (record { object = o; size = f .size; allocated = f .allocated; seconds = f .seconds; nanoseconds = f .nanoseconds }))
+      read-written encodeCard decodeCard cardBytes s at l (cardOf c) (length-encodeCard (cardOf c)) (decode-encodeCard (cardOf c) (card-in-range c o f))
 
   -- one that is read and written changes nothing
   pub card-kept : at + cardBytes ≤ length s → Bytes s → cardSpareZero (part at cardBytes s) ≡ true
@@ -58,17 +54,3 @@ module _ (s : List ℕ) (at : ℕ) where
   card-kept l b x =
       written-read encodeCard decodeCard cardBytes s at l
       (encode-decodeCard (part at cardBytes s) (length-part s at cardBytes l) (bytes-part s at cardBytes b) x)
-
-  -- a group that is written is read
-  pub group-back : (object number : ℕ) (g : ChecksumGroup) → at + groupBytes ≤ length s → GroupFits (groupOf object number g)
-      → decodeGroup (part at groupBytes (patch s at (encodeGroup (groupOf object number g)))) ≡ groupOf object number g
-  group-back object number g l f =
-      read-written encodeGroup decodeGroup groupBytes s at l (groupOf object number g) (length-encodeGroup (groupOf object number g) (f .slots))
-      (decode-encodeGroup (groupOf object number g) f)
-
-  -- one that is read and written changes nothing
-  pub group-kept : at + groupBytes ≤ length s → Bytes s → groupFixed (part at groupBytes s) ≡ true → absentZero (part at groupBytes s) ≡ true
-      → patch s at (encodeGroup (decodeGroup (part at groupBytes s))) ≡ s
-  group-kept l b x z =
-      written-read encodeGroup decodeGroup groupBytes s at l
-      (encode-decodeGroup (part at groupBytes s) (length-part s at groupBytes l) (bytes-part s at groupBytes b) x z)

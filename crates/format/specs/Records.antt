@@ -1,37 +1,16 @@
 -- What the structs of this crate say: for each the record of rules that it stands for, and that its fields keep within their widths.
 -- Assumes nothing.
-use mathlib.Core.Path.{_≡_}
-use mathlib.Core.List.{List, _++_, map, flatMap, zipWith}
-use mathlib.Core.Bool.{Bool, _||_}
-use mathlib.Core.Option.{Option, none, some}
-use Prim.Native.Nat.{ℕ, _-_, _^_, _≤_, _<_}
-use lib.Dec.{eqb}
-use lib.ListN.{getD, drop}
-use Rattle.rules.specs.Lists.{if_then_else_, maybe, range}
-use Rattle.rules.specs.Sizes.{groupUnits}
-use Rattle.rules.specs.Bytes.{le, part, pieces, bitSet}
+use Prim.Native.Nat.{ℕ, _^_, _<_}
 use Rattle.rules.specs.Head.{Head}
 use Rattle.rules.specs.Card.{Card}
 use Rattle.rules.specs.Extent.{Extent}
-use Rattle.rules.specs.Group.{Group, presence, slotBytes, slotValues}
 use Rattle.format.specs.declared.head.Head as head
 use Rattle.format.specs.declared.card.Card as card
 use Rattle.format.specs.declared.extent.Extent as extent
-use Rattle.format.specs.declared.group.ChecksumGroup as group
-use Rattle.format.specs.declared.group.Slot as slot
-use Rattle.format.specs.declared.group.Slot.the-variants.{Present, Absent}
 
 -- the bytes of a key
 abbrev pub keyBytes : ℕ
 keyBytes = 17
-
--- the bytes of a group's presence bits
-abbrev pub presenceBytes : ℕ
-presenceBytes = 32
-
--- the bytes of a slot
-abbrev pub slotWidth : ℕ
-slotWidth = 4
 
 -- the head that the struct says
 unfoldable pub headOf : head.Head → Head
@@ -61,6 +40,7 @@ cardOf c = record {
   size = c .size;
   allocated = c .allocated;
   changed = record { seconds = c .seconds; nanoseconds = c .nanoseconds };
+  created = record { seconds = c .«created_seconds»; nanoseconds = c .«created_nanoseconds» };
 }
 
 -- each of a card's fields is within its width; object has the whole of a word
@@ -69,47 +49,9 @@ pub record CardFits (c : card.Card) : Type 0 where
   pub allocated : c .allocated < 2 ^ 35
   pub seconds : c .seconds < 2 ^ 63
   pub nanoseconds : c .nanoseconds < 2 ^ 30
+  pub created-seconds : c .«created_seconds» < 2 ^ 63
+  pub created-nanoseconds : c .«created_nanoseconds» < 2 ^ 30
 
 -- the extent that the struct says
 unfoldable pub extentOf : extent.Extent → Extent
 extentOf e = record { object = e .object; logical = e .logical; physical = e .physical; count = e .count }
-
--- the slots of presence bytes and slot values: present where the bit is set, whatever value stands where it is not
-unfoldable pub slotsFrom : List ℕ → List ℕ → List (Option ℕ)
-slotsFrom present values =
-    zipWith (λ bit crc. if bit then some crc else none) (map (bitSet present) (range 0 groupUnits)) values
-
--- the slots that a checksum group in hand says
-unfoldable pub slotsOf : group.ChecksumGroup → List (Option ℕ)
-slotsOf g = slotsFrom (g .present) (g .slots)
-
--- the group that it says under a key
-unfoldable pub groupOf : ℕ → ℕ → group.ChecksumGroup → Group
-groupOf object number g = record { object = object; number = number; slots = slotsOf g }
-
--- the checksum that a slot says, if it is present
-unfoldable pub crcOf : slot.Slot → Option ℕ
-crcOf (Present crc) = some crc
-crcOf Absent = none
-
--- the value that is written for a slot: zero where it is not present
-unfoldable pub valueOf : Option ℕ → ℕ
-valueOf slot = maybe 0 (λ crc. crc) slot
-
--- a group's value: presence bytes, and behind them the slots
-abbrev pub valueBytes : List (Option ℕ) → List ℕ
-valueBytes slots = presence slots ++ flatMap slotBytes slots
-
--- the 256 values of 4 bytes little-endian from a place on
-unfoldable pub valuesAt : List ℕ → ℕ → List ℕ
-valuesAt s at = map le (pieces 4 groupUnits (drop at s))
-
--- slot n of a group's bytes is present, or zero
-unfoldable pub slotRight : List ℕ → ℕ → Bool
-slotRight bytes n = bitSet (part 17 32 bytes) n || eqb (getD (slotValues bytes) n 0) 0
-
--- so many bytes there are up to the last that is not zero
-pub record UpTo (present : List ℕ) (used : ℕ) : Type 0 where
-  pub most : used ≤ 32
-  pub behind : (i : ℕ) → used ≤ i → i < 32 → getD present i 0 ≡ 0
-  pub last : 0 < used → getD present (used - 1) 0 ≡ 0 → ⊥

@@ -39,7 +39,7 @@ pub fn decode_head(s: &[u8]) -> Head
     ensures { λ r. ⌜ (headOf r ≡ decodeHead (now (s .entry))) × HeadFits r ⌝ }
 {
     let uuid = read_uuid(s);
-    let f = words::field::read_head(s, UUID_BYTES);
+    let f = fields::read_head(s, UUID_BYTES);
     Head {
         uuid,
         blocks: f.blocks,
@@ -58,7 +58,7 @@ pub fn encode_head(s: &mut [u8], h: Head)
     ensures { λ _. ⌜ now (s .exit) ≡ encodeHead (headOf h) ⌝ }
 {
     let uuid = h.uuid;
-    let f = words::field::Head {
+    let f = fields::Head {
         blocks: h.blocks,
         reserved: h.reserved,
         hint: h.hint,
@@ -67,5 +67,5 @@ pub fn encode_head(s: &mut [u8], h: Head)
         groups: h.groups,
     };
     words::range::copy(s, 0, &uuid);
-    words::field::put_head(s, UUID_BYTES, f);
+    fields::put_head(s, UUID_BYTES, f);
 }

@@ -13,7 +13,7 @@ ghost use Rattle.rules.specs.Sizes.{blockBytes, unitBlocks, unitBytes};
 ghost use Rattle.rules.specs.Bytes.{allZero};
 ghost use Rattle.rules.specs.Checksum.{unitChecksum};
 ghost use Rattle.rules.specs.Units.{validLength};
-ghost use Rattle.crc32c.specs.Register.{Tables};
+ghost use Rattle.crc32c_tables.specs.Register.{Tables};
 ghost use Rattle.crc32c.specs.Unit.{UnitFed};
 ghost use Rattle.mapping.specs.Entries.{entryOf, entries, Inside};
 ghost use Rattle.inspect.specs.Mapped.{slotMapped, inspectMapped, checkMapped};

@@ -10,7 +10,9 @@ use lib.Dec.{leb, ltb}
 use lib.ListN.{length}
 use Rattle.rules.specs.Lists.{if_then_else_, all, range}
 use Rattle.rules.specs.Head.{Head, headBytes, decodeHead}
+use Rattle.rules.specs.Card.{cardBytes}
 use Rattle.rules.specs.Extent.{extentBytes, decodeExtent}
+use Rattle.rules.specs.Group.{groupBytes}
 use Rattle.rules.specs.Book.{LentBooks, bookPlaces, decodeBook, decodeBooks, Books}
 use Rattle.rules.specs.Store.{Store, Volume, lent, decode, decodeWith}
 use Rattle.rules.specs.Refusal.{Outcome, Result, numberOf, firstOf, result}
@@ -21,8 +23,8 @@ use Rattle.rules.specs.Lengths.{buffersFit, headLength, headFits, countsFit, le
 use Rattle.rules.specs.Integrity.{ordered, timesRight, noneEmpty, noOverlap, onDevice, inFiles, bytesKeepRules, recordsKeepRules, booksKeepRules, booksBroken, mappedBlocks, mappedUsed, mappedLive, mappedUnreserved, mappedRight, reservedRight, retiredRight, nonePast, mapsKeepRules, mapsBroken, ruleBroken, storeCases}
 use Rattle.rules.proofs.ListLaws.{test-cases, if-true, if-false, and-right, all-append}
 use Rattle.rules.proofs.PassLaws.{each-passed, BuffersSized, HeadRoom, buffers-sized, head-room, all-and, mappable, mapped-all, all-mapped, Passes}
-use Rattle.bitmap.specs.Pair.{only, inside}
-use Rattle.bitmap.proofs.PairLaws.{same-tests}
+use Rattle.bitmap_pairs.specs.Pair.{only, inside}
+use Rattle.bitmap_pairs.proofs.PairLaws.{same-tests}
 use Rattle.intake.specs.Join.{storeNumber, LengthsRight}
 use Rattle.intake_maps.specs.MapTests as tests
 use Rattle.intake_maps.specs.MapTests.{blocksMappable, extentMappable, mapsAlone, mapsRight, placed, MapsSized}
@@ -123,15 +125,15 @@ module _ (i hd c e g u x : List ℕ) (h : Head) (q : h ≡ decodeHead hd) where
   sized-here w = rw q (w .mapsFit)
 
   -- the cards are there
-  pub cards-here : LengthsRight hd c e g u x → 32 * h .cards ≤ length c
+  pub cards-here : LengthsRight hd c e g u x → cardBytes * h .cards ≤ length c
   cards-here w = rw q (w .cardsFit)
 
   -- the extents
-  pub extents-here : LengthsRight hd c e g u x → 33 * h .extents ≤ length e
+  pub extents-here : LengthsRight hd c e g u x → extentBytes * h .extents ≤ length e
   extents-here w = rw q (w .extentsFit)
 
   -- and the groups
-  pub groups-here : LengthsRight hd c e g u x → 1073 * h .groups ≤ length g
+  pub groups-here : LengthsRight hd c e g u x → groupBytes * h .groups ≤ length g
   groups-here w = rw q (w .groupsFit)
 
 -- the image is not looked at

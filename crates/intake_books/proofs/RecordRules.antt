@@ -3,10 +3,11 @@
 use mathlib.Core.Path.{_≡_, refl, _∙_}
 use mathlib.Core.Bool.{Bool, true, false, not}
 use mathlib.Core.List.{List}
-use Prim.Native.Nat.{ℕ, _+_, _-_, _*_, _<_}
+use Prim.Native.Nat.{ℕ, _+_, _-_, _*_, _≤_, _<_}
 use native.Mathlib.Omega.{arith}
-use borrow.Author.Tests.{lt-ltb, not-true, not-false}
+use borrow.Author.Tests.{lt-ltb, le-ltb, not-true, not-false}
 use lib.Dec.{ltb, leb}
+use Rattle.rules.specs.Sizes.{nanosecondsBound}
 use Rattle.rules.specs.Bytes.{part}
 use Rattle.rules.specs.Card.{decodeCard, cardSpareZero}
 use Rattle.rules.specs.Extent.{extentBytes, decodeExtent, extentFixed}
@@ -19,15 +20,20 @@ use Rattle.intake_books.specs.BookTests.{cardRight, extentRight, groupRi
 use Rattle.intake_books.proofs.WalkLaws.{kept-fails, kept-next}
 
 module _ (p : List ℕ) (m : Bool) where
-  -- the spare bit is set
+  -- a spare bit is set
   pub card-spare-not : m ≡ cardSpareZero p → not m ≡ true → false ≡ cardRight p
   unfolding cardRight
   card-spare-not e t = rw (← e, not-true m t) refl
 
-  -- it is not: the time is left
-  pub card-time : (x : ℕ) → m ≡ cardSpareZero p → not m ≡ false → x ≡ decodeCard p .changed .nanoseconds → ltb x 1000000000 ≡ cardRight p
+  -- none is: the times are left, and the first of them is wrong
+  pub card-time-not : (x : ℕ) → m ≡ cardSpareZero p → not m ≡ false → x ≡ decodeCard p .changed .nanoseconds → nanosecondsBound ≤ x → false ≡ cardRight p
   unfolding cardRight cardTimesRight
-  card-time x e t q = rw (← e, not-false m t, q) refl
+  card-time-not x e t q l = rw (← e, not-false m t, ← q, le-ltb x nanosecondsBound l) refl
+
+  -- it is right: the second decides
+  pub card-created : (x y : ℕ) → m ≡ cardSpareZero p → not m ≡ false → x ≡ decodeCard p .changed .nanoseconds → x < nanosecondsBound → y ≡ decodeCard p .created .nanoseconds → ltb y nanosecondsBound ≡ cardRight p
+  unfolding cardRight cardTimesRight
+  card-created x y e t q l r = rw (← e, not-false m t, ← q, lt-ltb x nanosecondsBound l, r) refl
 
   -- the fixed bytes are not right
   pub extent-fixed-not : (blocks : ℕ) → m ≡ extentFixed p → not m ≡ true → false ≡ extentRight blocks p

@@ -16,10 +16,10 @@ ghost use Rattle.rules.specs.Integrity.{booksKeepRules};
 ghost use Rattle.format.specs.Records.{extentOf};
 ghost use Rattle.book.specs.Places.{recordAt, follows};
 ghost use Rattle.intake_books.specs.BookTests.{lentAs, cardRight, extentRight, groupRight, recordKept, cardsKept, extentsKept, groupsKept, cardsRight, extentsRight, groupsRight, filesRight, inFileAt, CardFrom, SameFile};
+use checksum_group::GROUP_BYTES;
 use format::card::CARD_BYTES;
 use format::extent::EXTENT_BYTES;
 use format::extent::Extent;
-use format::group::GROUP_BYTES;
 use format::sizes::BLOCK_BYTES;
 
 // A second has so many nanoseconds.
@@ -28,7 +28,7 @@ const NANOSECONDS: u64 = 1000000000;
 // The last byte of a block.
 const LAST_BYTE: u64 = BLOCK_BYTES as u64 - 1;
 
-// Whether the card at `at` has its spare bit zero, and a time.
+// Whether the card at `at` has its spare bits zero, and two times.
 pub fn card_right(s: &[u8], at: usize) -> bool
     requires { ⌜ at + cardBytes ≤ length (now s) ⌝ }
     ensures { λ r. ⌜ r ≡ cardRight (part at cardBytes (now (s .entry))) ⌝ }
@@ -36,7 +36,10 @@ pub fn card_right(s: &[u8], at: usize) -> bool
     if !format::card::card_spare_zero(s, at) {
         return false;
     }
-    format::card::card_nanoseconds(s, at) < NANOSECONDS
+    if format::card::card_nanoseconds(s, at) >= NANOSECONDS {
+        return false;
+    }
+    format::card::card_created_nanoseconds(s, at) < NANOSECONDS
 }
 
 // Whether the card at place `i` is right, and follows the one before it.
@@ -146,10 +149,10 @@ pub fn group_right(s: &[u8], at: usize) -> bool
     requires { ⌜ at + groupBytes ≤ length (now s) ⌝ }
     ensures { λ r. ⌜ r ≡ groupRight (part at groupBytes (now (s .entry))) ⌝ }
 {
-    if !format::group::group_fixed(s, at) {
+    if !checksum_group::group_fixed(s, at) {
         return false;
     }
-    format::group::absent_zero(s, at)
+    checksum_group::absent_zero(s, at)
 }
 
 // Whether the group at place `i` is right, and follows the one before it.

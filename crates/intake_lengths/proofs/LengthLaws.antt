@@ -10,6 +10,9 @@ use lib.Dec.{eqb, leb, ltb}
 use lib.ListN.{length}
 use Rattle.rules.specs.Head.{Head, decodeHead}
 use Rattle.rules.specs.Map.{mapBytes}
+use Rattle.rules.specs.Card.{cardBytes}
+use Rattle.rules.specs.Extent.{extentBytes}
+use Rattle.rules.specs.Group.{groupBytes}
 use Rattle.rules.specs.Book.{bookPlaces}
 use Rattle.rules.specs.Store.{Store, imageBlocks}
 use Rattle.rules.specs.Lengths.{imageFits, mapFits, bookFits, buffersFit, headLength, headFits, countsFit, lengthWrong, freshLengthWrong}
@@ -56,17 +59,17 @@ pub first-yes : (a b r q : Bool) → r ≡ a → not r ≡ false → q ≡ b →
 first-yes a b r q e t f = rw (← e, not-false r t) f
 
 -- the three books: the first fails
-pub books-first : (c e g : ℕ) (r : Bool) → r ≡ bookRight 32 c → not r ≡ true → false ≡ booksRight c e g
+pub books-first : (c e g : ℕ) (r : Bool) → r ≡ bookRight cardBytes c → not r ≡ true → false ≡ booksRight c e g
 unfolding booksRight
 books-first c e g r p t = rw (← p, not-true r t) refl
 
 -- the second
-pub books-second : (c e g : ℕ) (r : Bool) → r ≡ bookRight 33 e → not r ≡ true → false ≡ booksRight c e g
+pub books-second : (c e g : ℕ) (r : Bool) → r ≡ bookRight extentBytes e → not r ≡ true → false ≡ booksRight c e g
 unfolding booksRight
-books-second c e g r p t = rw (← p, not-true r t, and-false (bookRight 32 c)) refl
+books-second c e g r p t = rw (← p, not-true r t, and-false (bookRight cardBytes c)) refl
 
 -- it is left to the third
-pub books-third : (c e g : ℕ) (r q o : Bool) → r ≡ bookRight 32 c → not r ≡ false → q ≡ bookRight 33 e → not q ≡ false → o ≡ bookRight 1073 g → o ≡ booksRight c e g
+pub books-third : (c e g : ℕ) (r q o : Bool) → r ≡ bookRight cardBytes c → not r ≡ false → q ≡ bookRight extentBytes e → not q ≡ false → o ≡ bookRight groupBytes g → o ≡ booksRight c e g
 unfolding booksRight
 books-third c e g r q o p t u v z = rw (← p, not-false r t, ← u, not-false q v) z
 
@@ -135,7 +138,7 @@ buffers-are s = refl
 
 -- so are those of the head
 pub head-is : (s : Store) (h : Head)
-    → (headFits s h && countsFit s h) ≡ headRight (length (s .image) / 4096) (length (s .cards) / 32) (length (s .extents) / 33) (length (s .groups) / 1073) h
+    → (headFits s h && countsFit s h) ≡ headRight (length (s .image) / 4096) (length (s .cards) / cardBytes) (length (s .extents) / extentBytes) (length (s .groups) / groupBytes) h
 unfolding headFits countsFit headRight imageBlocks bookPlaces
 head-is s h = refl
 
@@ -158,7 +161,7 @@ module _ (s : Store) (r : Bool) (p : r ≡ buffersRight (length (s .image)) (len
 
   -- it is left to what the head says
   pub wrong-numbers : (q : Bool) → not r ≡ false → length (s .head) ≡ 28
-      → q ≡ headRight (length (s .image) / 4096) (length (s .cards) / 32) (length (s .extents) / 33) (length (s .groups) / 1073) (decodeHead (s .head))
+      → q ≡ headRight (length (s .image) / 4096) (length (s .cards) / cardBytes) (length (s .extents) / extentBytes) (length (s .groups) / groupBytes) (decodeHead (s .head))
       → not q ≡ lengthWrong s
   unfolding lengthWrong headLength
   wrong-numbers q t e f =

@@ -18,8 +18,8 @@ use Rattle.rules.specs.Integrity.{nonePast}
 use Rattle.rules.proofs.ListLaws.{test-cases, clash, and-left, and-right, and-intro, or-left, all-at, all-of, all-weaken, all-range-at, all-range-of}
 use Rattle.rules.proofs.BookLaws.{length-decodeBook}
 use Rattle.rules.proofs.PassLaws.{all-and}
-use Rattle.bitmap.specs.Pair.{only, inside}
-use Rattle.bitmap.proofs.PairLaws.{same-tests, all-two}
+use Rattle.bitmap_pairs.specs.Pair.{only, inside}
+use Rattle.bitmap_pairs.proofs.PairLaws.{same-tests, all-two}
 use Rattle.book.specs.Places.{recordAt}
 use Rattle.book.proofs.SearchLaws.{Passes, record-at}
 use Rattle.intake_maps.specs.MapTests.{mappable, blocksMappable, extentMappable, mapsAlone, mapsRight, placed, Paired, MapsSized}

@@ -11,7 +11,7 @@ use Rattle.rules.specs.Sizes.{mostBlocks}
 use Rattle.rules.specs.Extent.{Extent}
 use Rattle.rules.specs.Map.{mapBytes}
 use Rattle.rules.specs.Integrity.{nonePast}
-use Rattle.bitmap.specs.Pair.{only, inside}
+use Rattle.bitmap_pairs.specs.Pair.{only, inside}
 
 -- the block may be mapped: used, not retired and not reserved
 unfoldable pub mappable : (reserved : ℕ) (used retired : List ℕ) → ℕ → Bool

@@ -24,9 +24,9 @@ fn blocks_mappable(first: u64, count: u32, reserved: usize, used: &[u8], retired
         return false;
     }
     if n <= 64 - a % 64 {
-        return bitmap::pair::only_in_word(used, retired, a, n);
+        return bitmap_pairs::only_in_word(used, retired, a, n);
     }
-    bitmap::pair::all_only(used, retired, a, e)
+    bitmap_pairs::all_only(used, retired, a, e)
 }
 
 // Whether the blocks of the extent at place `i` are.
@@ -68,16 +68,16 @@ pub fn maps_alone(blocks: usize, reserved: usize, used: &[u8], retired: &[u8]) -
     requires { ⌜ MapsSized blocks reserved (now used) (now retired) ⌝ }
     ensures { λ r. ⌜ r ≡ mapsAlone blocks reserved (now (used .entry)) (now (retired .entry)) ⌝ }
 {
-    if !bitmap::pair::clear_behind(used, blocks) {
+    if !bitmap_pairs::clear_behind(used, blocks) {
         return false;
     }
-    if !bitmap::pair::clear_behind(retired, blocks) {
+    if !bitmap_pairs::clear_behind(retired, blocks) {
         return false;
     }
-    if !bitmap::pair::all_inside(used, retired) {
+    if !bitmap_pairs::all_inside(used, retired) {
         return false;
     }
-    bitmap::pair::all_only(used, retired, 0, reserved)
+    bitmap_pairs::all_only(used, retired, 0, reserved)
 }
 
 // Whether the maps break a rule: the first `n` extents have blocks, and they lie on the device.

@@ -10,6 +10,7 @@ ghost use Rattle.rules.specs.Extent.{extentBytes};
 ghost use Rattle.rules.specs.Store.{lent};
 ghost use Rattle.rules.specs.Call.{run};
 ghost use Rattle.layout.specs.Calls.{beginning, writes, grows, layoutCalls};
+use format::card::CARD_BYTES;
 use format::extent::EXTENT_BYTES;
 use format::extent::Extent;
 use libc::STDOUT_FILENO;
@@ -193,7 +194,7 @@ fn print_layout(head: &[u8; 28], extents: &[u8]) {
 fn main() {
     let mut image = [0u8; 32768];
     let mut head = [0u8; 28];
-    let mut cards = [0u8; 32];
+    let mut cards = [0u8; CARD_BYTES];
     let mut extents = [0u8; 264];
     let mut groups = [0u8; 1073];
     let mut used = [0u8; 8];

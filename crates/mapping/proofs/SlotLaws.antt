@@ -15,9 +15,9 @@ use Rattle.rules.specs.Bytes.{part}
 use Rattle.rules.specs.Group.{Group, groupBytes, decodeGroup, checksumSlot}
 use Rattle.rules.specs.Book.{decodeBook}
 use Rattle.rules.specs.Finish.{isGroup}
-use Rattle.format.specs.declared.group.Slot.{Slot}
-use Rattle.format.specs.declared.group.Slot.the-variants.{Present, Absent}
-use Rattle.format.specs.Records.{crcOf}
+use Rattle.checksum_group.specs.declared.Slot.{Slot}
+use Rattle.checksum_group.specs.declared.Slot.the-variants.{Present, Absent}
+use Rattle.checksum_group.specs.Slots.{crcOf}
 use Rattle.book.specs.declared.Found.{Found}
 use Rattle.book.specs.declared.Found.the-variants.{At, Nothing}
 use Rattle.book.specs.Places.{recordAt, foundIn, placeOf, FoundFirst, groupIs}

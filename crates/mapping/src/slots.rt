@@ -8,13 +8,13 @@ ghost use Rattle.rules.specs.Lists.{range};
 ghost use Rattle.rules.specs.Sizes.{groupUnits};
 ghost use Rattle.rules.specs.Group.{groupBytes, decodeGroup};
 ghost use Rattle.rules.specs.Book.{decodeBook};
-ghost use Rattle.format.specs.Records.{crcOf};
+ghost use Rattle.checksum_group.specs.Slots.{crcOf};
 ghost use Rattle.book.specs.Places.{foundIn, FoundFirst, groupIs};
 ghost use Rattle.mapping.specs.Entries.{entryOf, entries, slotOf};
 ghost use Rattle.mapping.specs.Slots.{slotIn, GroupWithin};
 use book::Found;
-use format::group::GROUP_BYTES;
-use format::group::Slot;
+use checksum_group::GROUP_BYTES;
+use checksum_group::Slot;
 use format::sizes::GROUP_UNITS;
 
 // Units of a group, counted as units are.
@@ -37,7 +37,7 @@ fn group_entry(groups: &[u8], found: Found, k: usize) -> u64
     ensures { λ r. ⌜ (entryOf r ≡ slotIn (foundIn decodeGroup groupBytes (now (groups .entry)) found) k) × (r ≤ 2 ^ 32) ⌝ }
 {
     match found {
-        Found::At(i) => slot_entry(format::group::checksum_slot_at(groups, GROUP_BYTES * i, k)),
+        Found::At(i) => slot_entry(checksum_group::checksum_slot_at(groups, GROUP_BYTES * i, k)),
         Found::Nothing => 0,
     }
 }

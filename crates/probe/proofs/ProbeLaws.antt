@@ -16,10 +16,10 @@ use Rattle.rules.specs.Crc32c.{crc32c}
 use Rattle.rules.proofs.ByteLaws.{bytes-nil, bytes-append, part-all}
 use Rattle.rules.proofs.ListLaws.{if-true, if-false, if-cases}
 use Rattle.words.proofs.NumberLaws.{patch-whole}
-use Rattle.crc32c.specs.Register.{fed, begun, finished}
+use Rattle.crc32c_tables.specs.Register.{fed, begun, finished}
 use Rattle.crc32c.specs.Unit.{UnitFed}
 use Rattle.crc32c.specs.declared.unit.Running.{Running}
-use Rattle.crc32c.proofs.Division.{crc32c-fed}
+use Rattle.crc32c_tables.proofs.Division.{crc32c-fed}
 use Rattle.crc32c.proofs.Running.{fed-more}
 use Rattle.probe.specs.Probe.{repeated, copied, mapBits, countSet, allClear}
 

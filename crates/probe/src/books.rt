@@ -1,7 +1,7 @@
 // The books of a store, for tests and the benchmark.
+use checksum_group::GROUP_BYTES;
 use format::card::CARD_BYTES;
 use format::extent::EXTENT_BYTES;
-use format::group::GROUP_BYTES;
 
 // Whether the books of a store of so many blocks break a rule, where the numbers of records fit them.
 #[no_mangle]

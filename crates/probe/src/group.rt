@@ -1,7 +1,7 @@
 // Checksum groups, for tests: a record of 1,073 bytes through the struct in hand. A record of another length, or a slot past the last, changes nothing
 // and answers as an absent slot does.
-use format::group::GROUP_BYTES;
-use format::group::Slot;
+use checksum_group::GROUP_BYTES;
+use checksum_group::Slot;
 use format::sizes::GROUP_UNITS;
 
 // The length that `compact_group` keeps of a group's value.
@@ -10,7 +10,7 @@ pub extern "C" fn sangueko_probe_compact_group(group: &[u8]) -> usize {
     if group.len() != GROUP_BYTES {
         return 0;
     }
-    format::group::compact_group(format::group::decode_group(group, 0))
+    checksum_group::compact_group(checksum_group::decode_group(group, 0))
 }
 
 // The checksum in slot `n`, or 2^32 where none is present.
@@ -22,7 +22,7 @@ pub extern "C" fn sangueko_probe_checksum_slot(group: &[u8], n: usize) -> u64 {
     if GROUP_UNITS <= n {
         return 0x1_0000_0000;
     }
-    let slot = format::group::checksum_slot_at(group, 0, n);
+    let slot = checksum_group::checksum_slot_at(group, 0, n);
     match slot {
         Slot::Present(crc) => crc as u64,
         Slot::Absent => 0x1_0000_0000,
@@ -46,9 +46,9 @@ pub extern "C" fn sangueko_probe_set_checksum_slot(group: &mut [u8], n: usize, c
     if GROUP_UNITS <= n {
         return;
     }
-    let object = format::group::group_object(group, 0);
-    let number = format::group::group_number(group, 0);
-    let g = format::group::decode_group(group, 0);
-    let changed = format::group::set_checksum_slot(g, n, slot_of(crc));
-    format::group::encode_group(group, 0, object, number, changed);
+    let object = checksum_group::group_object(group, 0);
+    let number = checksum_group::group_number(group, 0);
+    let g = checksum_group::decode_group(group, 0);
+    let changed = checksum_group::set_checksum_slot(g, n, slot_of(crc));
+    checksum_group::encode_group(group, 0, object, number, changed);
 }

@@ -28,7 +28,7 @@ pub extern "C" fn sangueko_probe_crc32c(bytes: &[u8]) -> u32
 pub extern "C" fn sangueko_probe_crc32c_repeated(bytes: &[u8], times: usize) -> u32
     ensures { λ r. ⌜ r ≡ crc32c (repeated times (now (bytes .entry))) ⌝ }
 {
-    let t = crc32c::tables();
+    let t = crc32c_tables::tables();
     let mut c = crc32c::begin();
     let mut i: usize = 0;
     while i < times {

@@ -3,7 +3,7 @@ ghost use mathlib.Core.Path.{_≡_};
 ghost use Prim.Native.Nat.{_≤_, _<_, _^_};
 ghost use lib.ListN.{length};
 ghost use Rattle.rules.specs.Checksum.{unitChecksum};
-ghost use Rattle.crc32c.specs.Register.{Tables};
+ghost use Rattle.crc32c_tables.specs.Register.{Tables};
 
 // Where a piece of `n` bytes from `at` on ends.
 fn piece_end(at: usize, n: usize, len: usize) -> usize
@@ -59,7 +59,7 @@ pub extern "C" fn sangueko_probe_unit_checksum(
     if piece < 1 {
         return 0;
     }
-    let t = crc32c::tables();
+    let t = crc32c_tables::tables();
     let mut w = [0u8; 4624];
     in_pieces(&t, &mut w, uuid, object, unit, bytes, piece)
 }

@@ -11,7 +11,7 @@ ghost use Rattle.rules.specs.Extent.{mapping};
 ghost use Rattle.rules.specs.Group.{groupBytes, decodeGroup};
 ghost use Rattle.rules.specs.Book.{decodeBook};
 ghost use Rattle.rules.specs.Read.{readLength};
-ghost use Rattle.crc32c.specs.Register.{Tables};
+ghost use Rattle.crc32c_tables.specs.Register.{Tables};
 ghost use Rattle.mapping.specs.Entries.{entries, Inside, extentsIn, slotOf};
 ghost use Rattle.rules.specs.Answers.{checkedNumber};
 ghost use Rattle.inspect.specs.Mapped.{checkMapped};
@@ -206,7 +206,7 @@ fn read_units(
     requires { ⌜ n ≤ length (now out) ⌝ }
     ensures { λ r. ⌜ gives (r .number) (r .count) (now (out .exit)) ≡ givesChecked (offset % unitBytes) n (now (out .entry)) (checkedUnits (now (image .entry)) (now (uuid .entry)) (now (extents .entry)) (now (groups .entry)) e g object size offset n) ⌝ }
 {
-    let t = crc32c::tables();
+    let t = crc32c_tables::tables();
     let mut w = [0u8; 4624];
     let mut blocks = [0u32; MOST_BLOCKS];
     let k = units_touched(offset, n);

@@ -11,7 +11,7 @@ ghost use Rattle.rules.specs.Sizes.{unitBytes};
 ghost use Rattle.rules.specs.Head.{headBytes, decodeHead};
 ghost use Rattle.rules.specs.Triples.{tripleBytes, mostTriples};
 ghost use Rattle.rules.specs.ReadMany.{samePair};
-ghost use Rattle.crc32c.specs.Register.{Tables};
+ghost use Rattle.crc32c_tables.specs.Register.{Tables};
 ghost use Rattle.read.specs.Range.{Readable};
 ghost use Rattle.read.specs.Gives.{ReadReady};
 ghost use Rattle.triples.specs.Triple.{tripleAt};
@@ -355,7 +355,7 @@ pub fn check_list(
     requires { ⌜ (length (now list) / tripleBytes ≤ mostTriples) × (length (now sizes) ≡ mostTriples) ⌝ }
     ensures { λ r. ⌜ ListChecked (looked (now (image .entry)) (now (head .entry)) (now (extents .entry)) (now (groups .entry))) (now (cards .entry)) (now (list .entry)) (now (sizes .exit)) (r .number) (r .made) ⌝ }
 {
-    let t = crc32c::tables();
+    let t = crc32c_tables::tables();
     let mut w = [0u8; 4624];
     let h = format::head::decode_head(head);
     check_reads(

@@ -13,7 +13,7 @@ ghost use Rattle.rules.specs.Store.{Volume};
 ghost use Rattle.rules.specs.Units as rules;
 ghost use Rattle.rules.specs.Kept.{blocksAfter, retainedBlocks};
 ghost use Rattle.rules.specs.Rewrite as rewriting;
-ghost use Rattle.crc32c.specs.Register.{Tables};
+ghost use Rattle.crc32c_tables.specs.Register.{Tables};
 ghost use Rattle.mapping.specs.Entries.{entryOf, entries, Inside};
 ghost use Rattle.inspect.specs.Mapped.{inspectMapped};
 ghost use Rattle.allocation.specs.Carried.{Carried};
@@ -168,7 +168,7 @@ fn refused(number: u32, progress: Progress) -> UnitPlan
     }
 }
 
-// The blocks that the file's card counts after a unit: the card is changed in place. Its time is not known here, and is set where it is written.
+// The blocks that the file's card counts after a unit: the card is changed in place. Its times are not asked for.
 fn counted(object: u64, size: u64, allocated: u64, gone: u64, given: u64) -> u64
     requires { ⌜ (gone ≤ allocated) × (allocated + given < 2 ^ 64) ⌝ }
     ensures { λ r. ⌜ r ≡ allocated - gone + given ⌝ }
@@ -179,6 +179,8 @@ fn counted(object: u64, size: u64, allocated: u64, gone: u64, given: u64) -> u64
         allocated,
         seconds: 0,
         nanoseconds: 0,
+        created_seconds: 0,
+        created_nanoseconds: 0,
     };
     let after = count::card_after(card, gone, given);
     after.allocated

@@ -17,10 +17,11 @@ use Rattle.rules.specs.Head.{Head, decodeHead, encodeHead}
 use Rattle.rules.specs.Card.{Card, cardBytes, decodeCard, encodeCard, cardSpareZero, cardBefore}
 use Rattle.rules.specs.Book.{decodeBook, encodeBook, bookPlaces}
 use Rattle.rules.specs.Arguments.{timeWrong}
+use Rattle.rules.specs.Enter.{newCard}
 use Rattle.rules.proofs.ListLaws.{if-true, if-false}
 use Rattle.rules.proofs.BookLaws.{Whole, length-decodeBook, decodeBook-one, decodeBook-none}
+use Rattle.rules.proofs.EnterLaws.{new-fits}
 use Rattle.rules.proofs.CardLaws.{encode-decodeCard, decode-encodeCard, length-encodeCard, spare-encodeCard}
-use Rattle.rules.proofs.CardLaws as cards
 use Rattle.words.proofs.NumberLaws.{patch-whole}
 use Rattle.book.specs.Places.{foundIn, leading, cardIs, cardUnder, FoundFirst, Spliced}
 use Rattle.book.specs.declared.Found.{Found}
@@ -29,6 +30,7 @@ use Rattle.book.proofs.InsertLaws.{insert-leading, spliced-book}
 use Rattle.format.specs.declared.card.Card as struct
 use Rattle.format.specs.declared.head.Head as head
 use Rattle.format.specs.Records.{cardOf, CardFits, headOf, HeadFits}
+use Rattle.format.proofs.RecordLaws.{card-in-range, fits-said}
 use Rattle.store.specs.Buffers.{enterNumber, oneCardMore, CardsRight}
 
 -- ---- the tests
@@ -97,10 +99,9 @@ time-part time r l e = rw (le-ltb mostSeconds (time .seconds) l) e
 
 -- ---- the card book
 
--- the struct's fields fit where the card's do
-card-fits : (c : struct.Card) → c .object < 2 ^ 64 → CardFits c → cards.CardFits (cardOf c)
-unfolding cardOf
-card-fits c o f = record { object = o; size = f .size; allocated = f .allocated; seconds = f .seconds; nanoseconds = f .nanoseconds }
+-- the struct of a new card fits
+pub new-said : (c : struct.Card) (object : ℕ) (time : Time) → cardOf c ≡ newCard object time → object < 2 ^ 64 → time .seconds < 2 ^ 63 → time .nanoseconds < 2 ^ 30 → CardFits c
+new-said c object time e o s n = fits-said c (newCard object time) e (new-fits object time o (record { seconds = s; nanoseconds = n }))
 
 module _ (c : struct.Card) (o : c .object < 2 ^ 64) (f : CardFits c) (z x : List ℕ) (lz : length z ≡ cardBytes) (e : x ≡ patch z 0 (encodeCard (cardOf c))) where
   -- the buffer in which the card was written has its bytes
@@ -112,15 +113,15 @@ module _ (c : struct.Card) (o : c .object < 2 ^ 64) (f : CardFits c) (z x : List
   card-says =
       ap (decodeBook decodeCard cardBytes 1) (card-bytes ∙ sym (append-nil (encodeCard (cardOf c))))
       ∙ decodeBook-one decodeCard cardBytes 0 (encodeCard (cardOf c)) [] (length-encodeCard (cardOf c))
-      ∙ ap₂ _∷_ (decode-encodeCard (cardOf c) (card-fits c o f)) (decodeBook-none decodeCard cardBytes [])
+      ∙ ap₂ _∷_ (decode-encodeCard (cardOf c) (card-in-range c o f)) (decodeBook-none decodeCard cardBytes [])
 
-  -- with a spare bit of zero
+  -- with its spare bits zero
   card-spare : all cardSpareZero (pieces cardBytes 1 x) ≡ true
   unfolding all pieces
   card-spare =
       let l : length x ≡ cardBytes = ap length card-bytes ∙ length-encodeCard (cardOf c) in
       let q : take cardBytes x ≡ x = take-all cardBytes x (omega (arith, l)) in
-      rw (q, card-bytes, spare-encodeCard (cardOf c) (card-fits c o f)) refl
+      rw (q, card-bytes, spare-encodeCard (cardOf c) (card-in-range c o f)) refl
 
   -- the cards before it, it, and the others
   put-in : (cs : List Card) → insert cardBefore (cardOf c) cs ≡ take (leading (cardUnder (c .object)) cs) cs ++ (cardOf c ∷ []) ++ drop (leading (cardUnder (c .object)) cs) cs
@@ -139,6 +140,11 @@ module _ (c : struct.Card) (o : c .object < 2 ^ 64) (f : CardFits c) (z x : List
       spliced-book encodeCard decodeCard cardBytes cardSpareZero encode-decodeCard n i 0 1 s x t w card-spare (omega (arith, l)) b h in
       let q : insert cardBefore (cardOf c) cs ≡ take i cs ++ (cardOf c ∷ []) ++ drop i cs = rw (p .0 (r .order)) (put-in cs) in
       m ∙ ap (encodeBook encodeCard (length s)) (rw (card-says, k, q) refl)
+
+-- what was put in is the new card
+pub new-inserted : (c : struct.Card) (object : ℕ) (time : Time) (n : ℕ) (cs : List Card) (t : List ℕ) → cardOf c ≡ newCard object time
+    → t ≡ encodeBook encodeCard n (insert cardBefore (cardOf c) cs) → t ≡ encodeBook encodeCard n (insert cardBefore (newCard object time) cs)
+new-inserted c object time n cs t e q = q ∙ ap (λ (k : Card). encodeBook encodeCard n (insert cardBefore k cs)) e
 
 -- ---- the head
 

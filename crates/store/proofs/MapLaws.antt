@@ -19,7 +19,7 @@ use Rattle.rules.proofs.ByteLaws.{bytes-replicate}
 use Rattle.rules.proofs.BitLaws.{length-bitBytes, bytes-bitBytes, bitSet-bitBytes, bits-ext, bits-zero}
 use Rattle.words.proofs.NumberLaws.{patch-whole}
 use Rattle.bitmap.specs.Map.{withBits}
-use Rattle.bitmap.specs.Pair.{only}
+use Rattle.bitmap_pairs.specs.Pair.{only}
 use Rattle.format.specs.Records.{headOf}
 use Rattle.store.specs.Buffers.{freshHead}
 use Rattle.bitmap.proofs.MapLaws.{length-withBits, bytes-withBits, bitSet-inside, bitSet-after}

@@ -103,13 +103,7 @@ pub fn enter_card(
     requires { ⌜ EnterReady (now head) (now cards) n (record { seconds = seconds; nanoseconds = nanoseconds }) ⌝ }
     ensures { λ _. ⌜ (now (head .exit) ≡ encodeHead (oneCardMore (decodeHead (now (head .entry))))) × (now (cards .exit) ≡ encodeBook encodeCard (length (now (cards .entry))) (insert cardBefore (newCard object (record { seconds = seconds; nanoseconds = nanoseconds })) (decodeBook decodeCard cardBytes n (now (cards .entry))))) ⌝ }
 {
-    let c = Card {
-        object,
-        size: 0,
-        allocated: 0,
-        seconds,
-        nanoseconds,
-    };
+    let c = format::card::new_card(object, seconds, nanoseconds);
     insert_card(cards, n, c);
     count_card(head);
 }

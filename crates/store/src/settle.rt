@@ -13,7 +13,7 @@ pub fn settle_maps(used: &mut [u8], retired: &mut [u8], blocks: usize) -> u64
     ensures { λ r. ⌜ (r ≡ count (bitSet (now (retired .entry))) (range 0 blocks)) × (now (used .exit) ≡ encodeMap blocks (λ n. bitSet (now (used .entry)) n && not (bitSet (now (retired .entry)) n))) × (now (retired .exit) ≡ encodeMap blocks (λ n. false)) ⌝ }
 {
     let count = bitmap::count_set(retired, 0, blocks);
-    bitmap::difference::clear_where(used, retired);
+    bitmap_pairs::difference::clear_where(used, retired);
     zero_all(retired);
     count as u64
 }

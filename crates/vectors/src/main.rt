@@ -1,6 +1,7 @@
 // Writes the vectors of the layers below, for comparison with `stdout`: RFC 3720's CRC-32C values (B.4) and the check value of
 // "123456789", a unit's checksum, numbers in both byte orders, the packed fields of a head and a card, and a map of bits.
 // `stdout` was written from the documents.
+use format::card::CARD_BYTES;
 use libc::STDOUT_FILENO;
 
 // The 48 bytes of an iSCSI Read (10) command PDU.
@@ -183,7 +184,7 @@ fn rfc_3720() {
 
 // The check value again, fed in two parts.
 fn in_parts() {
-    let t = crc32c::tables();
+    let t = crc32c_tables::tables();
     let c = crc32c::feed(&t, crc32c::begin(), b"1234");
     crc_line(
         b"1234 and 56789: ",
@@ -212,10 +213,10 @@ fn narrow_numbers() {
 // A head whose `extents` lies across the two words.
 fn head() {
     let mut s = [0u8; 12];
-    words::field::put_head(
+    fields::put_head(
         &mut s,
         0,
-        words::field::Head {
+        fields::Head {
             blocks: 0x1_0000,
             reserved: 1,
             hint: 2,
@@ -225,29 +226,33 @@ fn head() {
         },
     );
     bytes_line(b"head: ", &s);
-    let h = words::field::read_head(&s, 0);
+    let h = fields::read_head(&s, 0);
     number_line(b"extents of it: ", h.extents);
 }
 
-// A card whose `allocated` and `seconds` lie across two words.
+// A card whose `allocated`, `seconds` and creation time lie across two words.
 fn card() {
-    let mut s = [0u8; 32];
-    words::field::put_card(
+    let mut s = [0u8; CARD_BYTES];
+    fields::put_card(
         &mut s,
         0,
-        words::field::Card {
+        fields::Card {
             object: 0x0123_4567_89ab_cdef,
             size: 0x7fff_ffff_ffff_fffe,
             allocated: 0x4_0000_0001,
             seconds: 0x4000_0000_0000_0003,
             nanoseconds: 999_999_999,
-            spare: 1,
+            created_seconds: 0x4000_0000_0000_0005,
+            created_nanoseconds: 0x2000_0003,
+            spare: 0x8_0000_0001,
         },
     );
     bytes_line(b"card: ", &s);
-    let c = words::field::read_card(&s, 0);
+    let c = fields::read_card(&s, 0);
     number_line(b"allocated of it: ", c.allocated);
     number_line(b"seconds of it: ", c.seconds);
+    number_line(b"creation seconds of it: ", c.created_seconds);
+    number_line(b"creation nanoseconds of it: ", c.created_nanoseconds);
 }
 
 // A map of 96 bits: a range set in single bits and in words, and one bit of it cleared.

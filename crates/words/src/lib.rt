@@ -1,8 +1,7 @@
 // Numbers in a byte slice: both byte orders, at 64 and 32 bits, read and written at a place.
 //
-// The modules beside: `field` has the packed fields of head and card, `range` what is done to a range of bytes.
+// `range` has what is done to a range of bytes.
 // A leaf takes the bytes themselves and puts them together in Horner's form, which compiles to one load.
-pub mod field;
 pub mod range;
 
 ghost use mathlib.Core.Path.{_≡_};

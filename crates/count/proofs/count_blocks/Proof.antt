@@ -38,7 +38,7 @@ use denote.Triple.Spec.{Meets, tripleOf}
 use denote.Triple.Table.{entered, cited}
 use denote.Triple.Walked.{says, needs, Stays, stay-ref, stay-none, walkOf, AllGo, goes-none, goes-ref, Walks, ends-at, walked, walk-meets}
 use denote.Exit.{yes}
-use Rattle.count.specs.Counted.{countedOf}
+use Rattle.count.specs.Counted.{countedOf, withCount}
 use Rattle.format.specs.declared.card.Card.{Card}
 use Rattle.format.proofs.card.Card as T
 use Rattle.format.proofs.card.Card.Laws as T′
@@ -67,7 +67,7 @@ module _ {M : Type 1} (𝓤 : URA M) (H : Heap 𝓤) (A : Atoms 𝓤) (W : Given
 
   -- the card at another count
   abbrev h′ : ℕ → Card
-  h′ r = record { object = h .object; size = h .size; allocated = r; seconds = h .seconds; nanoseconds = h .nanoseconds }
+  h′ r = withCount h r
 
   abbrev at : List Val × (List Val × (List Val × Unit {0}))
   at = (vptr b o ∷ [], (vint w64 m ∷ [], (vint w64 n ∷ [], tt)))

@@ -1,6 +1,6 @@
 -- `crc32c::feed_window` meets its contract.
 -- Assumes nothing.
-use Rattle.crc32c.proofs.WindowLaws.{all-fed}
+use Rattle.crc32c_window.proofs.WindowLaws.{all-fed}
 use borrow.Author.Needs.{needs}
 use Rattle.crc32c.proofs.feed_window.Statement.{statement}
 use Rattle.crc32c.proofs.feed_window.Tie as tie

@@ -1,7 +1,7 @@
 -- `crc32c::finish` meets its contract.
 -- Assumes nothing.
 use mathlib.Core.Path.{refl}
-use Rattle.crc32c.specs.Register.{finished}
+use Rattle.crc32c_tables.specs.Register.{finished}
 use Rattle.crc32c.proofs.finish.Statement.{statement}
 use Rattle.crc32c.proofs.finish.Tie as tie
 

@@ -3,7 +3,7 @@
 use native.Mathlib.Omega.{arith}
 use Prim.Native.Nat.{_-_, _≤_}
 use mathlib.Core.Path.{_≡_}
-use Rattle.crc32c.specs.Register.{fed, begun}
+use Rattle.crc32c_tables.specs.Register.{fed, begun}
 use Rattle.probe.specs.Probe.{repeated}
 use Rattle.probe.proofs.ProbeLaws.{repeated-none, repeated-more, repeated-all}
 use borrow.Author.Needs.{needs}

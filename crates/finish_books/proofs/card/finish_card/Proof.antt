@@ -1,8 +1,8 @@
 -- `finish_books::card::finish_card` meets its contract.
 -- Assumes nothing.
-use Rattle.finish_books.proofs.CardLaws.{card-found, card-not-nothing, card-written}
 use native.Mathlib.Omega.{arith}
 use borrow.Author.Needs.{needs}
+use Rattle.finish_books.proofs.CardLaws.{card-found, card-not-nothing, card-written}
 use Rattle.finish_books.proofs.card.finish_card.Statement.{statement}
 use Rattle.finish_books.proofs.card.finish_card.Tie as tie
 
@@ -12,15 +12,10 @@ find-card-requires c κs = search needs
 enum-known-found : tie.Need-enum-known-found
 enum-known-found c = search needs
 
-mul-encode-card : tie.Need-mul-encode-card
-mul-encode-card c = let l = card-found _ _ _ _ _ (c .before .before .before .before .find-card .ensures) (c .before .before .found .given .1) in search needs
-
-encode-card-requires : tie.Need-encode-card-requires
-encode-card-requires c κs =
-    let l = card-found _ _ _ _ _ (c .before .before .before .before .find-card .ensures) (c .before .before .found .given .1) in (
-      omega arith,
-      record { size = omega arith; allocated = omega arith; seconds = omega arith; nanoseconds = omega arith },
-    )
+change-card-requires : tie.Need-change-card-requires
+change-card-requires c κs =
+    let l = card-found _ _ _ _ _ (c .before .before .before .before .find-card .ensures) (c .before .before .found .given .1) in
+    (omega arith, c .before .before .before .before .before .before .before .pre .1 .1)
 
 enum-told : tie.Need-enum-told
 enum-told c = search needs
@@ -31,7 +26,8 @@ same-length c = search needs
 returns : tie.Need-returns
 returns c =
     let l = card-found _ _ _ _ _ (c .before .before .before .before .before .before .before .find-card .ensures) (c .before .before .before .before .before .found .given .1) in
-    card-written _ _ _ _ _ (c .before .before .before .before .before .before .before .before .before .before .pre .0) (omega arith) (record { size = omega arith; allocated = omega arith; seconds = omega arith; nanoseconds = omega arith }) (l .0) (l .1) (λ k. c .slice-known2 .given k .fits) (c .before .before .encode-card .ensures)
+    let p = c .before .before .before .before .before .before .before .before .before .before .pre in
+    card-written _ _ _ (p .1 .1 .0) (p .1 .1 .1) (p .1 .1 .2) (p .1 .1 .3) _ _ _ _ _ (p .0) (l .0) (l .1) (λ k. c .slice-known2 .given k .fits) (c .before .before .change-card .ensures)
 
 same-length-2 : tie.Need-same-length-2
 same-length-2 c = search needs
@@ -45,8 +41,7 @@ finish-card-spec =
     (tie.spec
     find-card-requires
     enum-known-found
-    mul-encode-card
-    encode-card-requires
+    change-card-requires
     enum-told
     same-length
     returns

@@ -1,13 +1,18 @@
 -- `store::enter::enter_card` meets its contract.
 -- Assumes nothing.
-use Rattle.rules.specs.Enter.{newCard}
-use Rattle.format.specs.Records.{cardOf}
+use native.Mathlib.Omega.{arith}
 use borrow.Author.Needs.{needs}
+use Rattle.store.proofs.EnterLaws.{new-said, new-inserted}
 use Rattle.store.proofs.enter.enter_card.Statement.{statement}
 use Rattle.store.proofs.enter.enter_card.Tie as tie
 
+new-card-requires : tie.Need-new-card-requires
+new-card-requires c κs = search needs
+
 insert-card-requires : tie.Need-insert-card-requires
-insert-card-requires c κs = search needs
+insert-card-requires c κs =
+    let r = c .before .before .before .before .pre in
+    (r .right, (r .room, new-said _ _ _ (c .before .new-card .ensures) (omega arith) (r .early) (r .part)))
 
 count-card-requires : tie.Need-count-card-requires
 count-card-requires c κs = search needs
@@ -19,9 +24,18 @@ same-length-2 : tie.Need-same-length-2
 same-length-2 c = search needs
 
 returns : tie.Need-returns
-unfolding cardOf newCard
-returns c = (c .before .before .count-card .ensures, c .before .before .before .before .before .before .insert-card .ensures)
+returns c = (
+  c .before .before .count-card .ensures,
+  new-inserted _ _ _ _ _ _ (c .before .before .before .before .before .before .before .before .new-card .ensures) (c .before .before .before .before .before .before .insert-card .ensures),
+)
 
 pub enter-card-spec : {M : Type 1} → statement M
 enter-card-spec =
-    tie.close (tie.spec insert-card-requires count-card-requires same-length same-length-2 returns)
+    tie.close
+    (tie.spec
+    new-card-requires
+    insert-card-requires
+    count-card-requires
+    same-length
+    same-length-2
+    returns)

@@ -1,0 +1,4 @@
+pub mod XorLaws
+pub mod RegisterLaws
+pub mod Division
+pub mod TableRule

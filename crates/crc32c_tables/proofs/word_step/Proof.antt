@@ -1,0 +1,143 @@
+-- `crc32c_tables::word_step` meets its contract.
+-- Assumes nothing.
+use Rattle.crc32c_tables.proofs.RegisterLaws.{word-law}
+use borrow.Author.Needs.{needs}
+use Rattle.crc32c_tables.proofs.word_step.Statement.{statement}
+use Rattle.crc32c_tables.proofs.word_step.Tie as tie
+
+mul-from : tie.Need-mul-from
+mul-from c = search needs
+
+add-result : tie.Need-add-result
+add-result c = search needs
+
+mul-result : tie.Need-mul-result
+mul-result c = search needs
+
+element-copy-out-result : tie.Need-element-copy-out-result
+element-copy-out-result c = search needs
+
+add-result-2 : tie.Need-add-result-2
+add-result-2 c = search needs
+
+add-result-3 : tie.Need-add-result-3
+add-result-3 c = search needs
+
+mul-result-2 : tie.Need-mul-result-2
+mul-result-2 c = search needs
+
+element-copy-out-result-2 : tie.Need-element-copy-out-result-2
+element-copy-out-result-2 c = search needs
+
+add-result-4 : tie.Need-add-result-4
+add-result-4 c = search needs
+
+add-result-5 : tie.Need-add-result-5
+add-result-5 c = search needs
+
+mul-result-3 : tie.Need-mul-result-3
+mul-result-3 c = search needs
+
+element-copy-out-result-3 : tie.Need-element-copy-out-result-3
+element-copy-out-result-3 c = search needs
+
+add-result-6 : tie.Need-add-result-6
+add-result-6 c = search needs
+
+add-result-7 : tie.Need-add-result-7
+add-result-7 c = search needs
+
+mul-result-4 : tie.Need-mul-result-4
+mul-result-4 c = search needs
+
+element-copy-out-result-4 : tie.Need-element-copy-out-result-4
+element-copy-out-result-4 c = search needs
+
+add-result-8 : tie.Need-add-result-8
+add-result-8 c = search needs
+
+add-result-9 : tie.Need-add-result-9
+add-result-9 c = search needs
+
+mul-result-5 : tie.Need-mul-result-5
+mul-result-5 c = search needs
+
+element-copy-out-result-5 : tie.Need-element-copy-out-result-5
+element-copy-out-result-5 c = search needs
+
+add-result-10 : tie.Need-add-result-10
+add-result-10 c = search needs
+
+add-result-11 : tie.Need-add-result-11
+add-result-11 c = search needs
+
+mul-result-6 : tie.Need-mul-result-6
+mul-result-6 c = search needs
+
+element-copy-out-result-6 : tie.Need-element-copy-out-result-6
+element-copy-out-result-6 c = search needs
+
+add-result-12 : tie.Need-add-result-12
+add-result-12 c = search needs
+
+add-result-13 : tie.Need-add-result-13
+add-result-13 c = search needs
+
+mul-result-7 : tie.Need-mul-result-7
+mul-result-7 c = search needs
+
+element-copy-out-result-7 : tie.Need-element-copy-out-result-7
+element-copy-out-result-7 c = search needs
+
+add-result-14 : tie.Need-add-result-14
+add-result-14 c = search needs
+
+add-result-15 : tie.Need-add-result-15
+add-result-15 c = search needs
+
+mul-result-8 : tie.Need-mul-result-8
+mul-result-8 c = search needs
+
+element-copy-out-result-8 : tie.Need-element-copy-out-result-8
+element-copy-out-result-8 c = search needs
+
+returns : tie.Need-returns
+returns c = search (word-law, needs)
+
+pub word-step-spec : {M : Type 1} → statement M
+word-step-spec =
+    tie.close
+    (tie.spec
+    mul-from
+    add-result
+    mul-result
+    element-copy-out-result
+    add-result-2
+    add-result-3
+    mul-result-2
+    element-copy-out-result-2
+    add-result-4
+    add-result-5
+    mul-result-3
+    element-copy-out-result-3
+    add-result-6
+    add-result-7
+    mul-result-4
+    element-copy-out-result-4
+    add-result-8
+    add-result-9
+    mul-result-5
+    element-copy-out-result-5
+    add-result-10
+    add-result-11
+    mul-result-6
+    element-copy-out-result-6
+    add-result-12
+    add-result-13
+    mul-result-7
+    element-copy-out-result-7
+    add-result-14
+    add-result-15
+    mul-result-8
+    element-copy-out-result-8
+    returns)

@@ -1,0 +1,4 @@
+pub mod HistoryLaws
+pub mod Multiple
+pub mod LatestLaws
+pub mod WindowLaws
