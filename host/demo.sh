@@ -1,7 +1,8 @@
 #!/usr/bin/env bash
 # The command `sangueko` on a store in a temporary folder: a file of flags is written, overwritten, shown, settled and read back; a batch of writes is made,
-# and one that stops; a write is killed; then one byte of a copy is damaged in each of several ways, and the refusals are shown in words. Every answer is
-# compared with what it has to be: the script fails where one is not. It needs the archive (`rt staticlib volume`), ends by itself and leaves nothing behind.
+# and one that stops; a write is killed; then one byte of a copy is damaged in each of several ways, a copy gets the cards of an older store, and the
+# refusals are shown in words. Every answer is compared with what it has to be: the script fails where one is not. It needs the archive
+# (`rt staticlib volume`), ends by itself and leaves nothing behind.
 set -euo pipefail
 cd "$(dirname "$0")/.."
 cargo build --release --offline --quiet --manifest-path host/tool/Cargo.toml
@@ -30,7 +31,7 @@ bytes() { head -c "$1" /dev/zero | tr '\0' "\\$2"; }
 
 say "A store of 160 blocks; file 7 holds a bit for each coverage bin"
 run new store --blocks 160 --reserved 4 --cards 4 --groups 4 --uuid 00112233445566778899aabbccddeeff
-run enter store 7
+run enter store 7 --time 1700000000.5
 bytes 150000 357 >flags
 run write store 7 flags
 echo "a second file" >text
@@ -51,6 +52,9 @@ run flags store 7
 
 say "The store"
 run show store
+
+say "File 7 was created at the time at which it was entered, whatever was written since"
+"$sangueko" show store | grep -o 'file 7: .*, created 2023-11-14 22:13:20.500000000 UTC'
 
 say "Settled: the retired blocks are free again"
 run settle store
@@ -120,7 +124,8 @@ damage "A byte of the flags" image 20480 000 12
 ends 12 read copy 7 --ranges 449990:5,5:10 --out parts
 cmp parts expected && echo "   (nothing was written)"
 damage "The head's number of blocks" head 17 000 1
-damage "A spare bit of a card" cards 31 001 2
+damage "The nanoseconds of a file's creation" cards 39 003 2
+damage "A spare bit of a card" cards 47 001 2
 damage "The count of an extent" extents 25 000 2
 damage "The first block of an extent" extents 17 001 2
 damage "A bit of the map of used blocks" used 0 177 2
@@ -134,6 +139,11 @@ truncate -s -1 copy/cards
 ends 1 fill copy
 rm copy/cards
 ends 66 fill copy
+
+say "An older store, whose cards have 32 bytes: it is not converted"
+card() { dd if=store/cards bs=1 skip="$1" count=32 status=none; }
+{ card 0 && card 48 && bytes 64 000; } >copy/cards
+ends 1 check copy
 
 say "What a refusal means"
 run explain 12

@@ -29,8 +29,18 @@
  * Proved. Of each call one equation is proved: its number, its count and every byte of the buffers after it are those that the rules give
  * (crates/rules). Of the rules, and so by the equations of these calls, one theorem is proved about every list of calls on a store that sangueko_fresh
  * made (crates/history): reads that are accepted give the bytes that plain arrays would hold after the same calls (of a batch, after the writes done),
- * every block is reserved, free, retired or at one place of one file, every file's count of blocks is right, and refusals 2, 9 to 12 and 14 never come.
+ * every block is reserved, free, retired or at one place of one file, every file's count of blocks is right, its card says when it was created, and
+ * refusals 2, 9 to 12 and 14 never come.
  * Of buffers that something else has changed the theorem says nothing; a call does with them what its equation says.
+ *
+ * Cards. No call gives a file's size or times: they stand on its card, which may be read. The cards lie one behind the other, ascending by object, and
+ * the head says how many they are, in the 20 bits behind its first 164. A card's fields are packed, each most significant bit first: object 64 bits,
+ * size 63, blocks 35, the time of the last change as seconds 63 and nanoseconds 30, the time of the creation likewise, and 36 bits that are zero.
+ *
+ * Older stores. Cards once had 32 bytes, without the time of the creation. Stores with such cards are not converted, and nothing in a store tells how
+ * wide its cards are. One is refused by 1 where its book of cards is no multiple of SANGUEKO_CARD_BYTES, or its head counts more cards than the book
+ * then has places, and else normally by 2. But one that passes 1 and 2 is read as cards of SANGUEKO_CARD_BYTES: a single card in 96 bytes passes, and
+ * has creation time 0. So do not lend such stores: copy the files out with the library that they were made with.
  *
  * Pointers. A buffer that a call takes as `const` is only read. The others must not overlap any other buffer of the same call. No alignment is asked
  * for. The pointer of an empty buffer may be any that is not null.
@@ -53,7 +63,7 @@ extern "C" {
 /* Bytes of a block, of the head, and of a record in each book. */
 #define SANGUEKO_BLOCK_BYTES 4096
 #define SANGUEKO_HEAD_BYTES 28
-#define SANGUEKO_CARD_BYTES 32
+#define SANGUEKO_CARD_BYTES 48
 #define SANGUEKO_EXTENT_BYTES 33
 #define SANGUEKO_GROUP_BYTES 1073
 
@@ -143,7 +153,7 @@ struct sangueko_answer sangueko_fresh(
     uint64_t reserved);
 
 /*
- * Adds the file `object`, of size 0 and without blocks, last changed at the time given. Any number may name a file.
+ * Adds the file `object`, of size 0 and without blocks, created and last changed at the time given. Any number may name a file.
  * Count: 0. Refused, in this order, by 1, 2, 4 (there is such a file), 7 (the time), 8 (no place for its card).
  */
 struct sangueko_answer sangueko_enter(
@@ -158,8 +168,8 @@ struct sangueko_answer sangueko_enter(
 
 /*
  * Writes `bytes` into the file from `offset` on, over what was there: all of them, or the first SANGUEKO_MOST_TRANSFER. Past its end the file grows,
- * and what lies between reads as zeros. Its time becomes the one given. New bytes go to free blocks; the blocks whose place they take stay used, as
- * retired ones, until sangueko_settle. Empty `bytes` change nothing, not even the time.
+ * and what lies between reads as zeros. The time of its last change becomes the one given; that of its creation stays. New bytes go to free blocks; the
+ * blocks whose place they take stay used, as retired ones, until sangueko_settle. Empty `bytes` change nothing, not even the time.
  * Count: the bytes taken; the rest is left to another call. 0 where `bytes` is empty. Refused, in this order, by 1, 2, 3 (no such file), 5 (where
  * the bytes that are taken end), 7 (the time), unit by unit by 9 to 12 (if old bytes of it stay) and by 13 and 14, and at last by 15 and 16. Empty
  * `bytes` are refused by 1, 2 and 3 alone.
@@ -177,8 +187,8 @@ struct sangueko_answer sangueko_write(
     uint64_t seconds, uint64_t nanoseconds);
 
 /*
- * Makes the file `size` bytes long. The new bytes read as zeros; only those in the unit that the file ended in take blocks. Its time becomes the one
- * given. Its present size changes nothing, not even the time; files do not shrink.
+ * Makes the file `size` bytes long. The new bytes read as zeros; only those in the unit that the file ended in take blocks. The time of its last change
+ * becomes the one given; that of its creation stays. Its present size changes nothing, not even the time; files do not shrink.
  * Count: 0. Refused, in this order, by 1, 2, 3 (no such file), 5 (the size), 6 (a smaller size); where the size changes, by 7 (the time) and, if the
  * file ended within a unit that has data, by 9 to 14 on that unit, 15 and 16.
  */
@@ -264,7 +274,7 @@ struct sangueko_answer sangueko_read_many(
  * one file or of several, in any order, equal or overlapping ones too. `bytes` is cut into pieces that lie one after another in list order, each as
  * long as its range, of at most SANGUEKO_MOST_TRANSFER bytes; together they are all of `bytes`. The writes are made in list order, and the later one
  * stands over the earlier; each of them retires the blocks whose place it takes, also those that an earlier one of the batch took. All have the one
- * time given.
+ * time given, and set that of the last change alone.
  * Number and count: as is said above, the writes done and what stopped it. An empty piece is a write, and counts. 0 and 0 for an empty list. Refused,
  * in this order, by 1, 2, 18 (the list). Stopped by whatever a write would be refused by, 1 and 2 too, which are tried again before each of them: where
  * something has changed the buffers so that two places have the same block, a write over the one leaves a store that 2 refuses. Where no two places

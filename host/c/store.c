@@ -425,14 +425,75 @@ static void put_bits(uint8_t *at, unsigned from, unsigned width, uint64_t value)
     }
 }
 
-/* The records of file 7 as they are to be: its card is the second of two. */
+static uint64_t get_bits(const uint8_t *at, unsigned from, unsigned width)
+{
+    uint64_t value = 0;
+    for (unsigned bit = from; bit < from + width; bit++)
+        value = value << 1 | (at[bit / 8] >> (7 - bit % 8) & 1);
+    return value;
+}
+
+/* The fields of a card behind those of the file's size and blocks: the first bit and how many. */
+#define CHANGED_SECONDS 162, 63
+#define CHANGED_NANOSECONDS 225, 30
+#define CREATED_SECONDS 255, 63
+#define CREATED_NANOSECONDS 318, 30
+#define SPARE_FROM 348
+
+/* The records of file 7 as they are to be: its card is the second of two, and says when the file was created as it was kept. */
 static void expect_card(uint8_t *kept[BUFFERS], uint64_t size, uint64_t blocks, uint64_t seconds, uint64_t nanoseconds)
 {
     uint8_t *card = kept[CARD] + SANGUEKO_CARD_BYTES;
     put_bits(card, 64, 63, size);
     put_bits(card, 127, 35, blocks);
-    put_bits(card, 162, 63, seconds);
-    put_bits(card, 225, 30, nanoseconds);
+    put_bits(card, CHANGED_SECONDS, seconds);
+    put_bits(card, CHANGED_NANOSECONDS, nanoseconds);
+}
+
+struct times {
+    uint64_t created[2], changed[2];
+};
+
+/* Seconds and nanoseconds on the card of file 7. */
+static void expect_times(const char *what, const struct store *s, struct times times)
+{
+    const uint8_t *card = s->at[CARD] + SANGUEKO_CARD_BYTES;
+    EXPECT(what, get_bits(card, CREATED_SECONDS) == times.created[0]);
+    EXPECT(what, get_bits(card, CREATED_NANOSECONDS) == times.created[1]);
+    EXPECT(what, get_bits(card, CHANGED_SECONDS) == times.changed[0]);
+    EXPECT(what, get_bits(card, CHANGED_NANOSECONDS) == times.changed[1]);
+}
+
+/* A store that is refused by 2, or not at all, for what a card says. */
+static void card_tried(const char *what, struct store *s, uint8_t *kept[BUFFERS], int is_refused)
+{
+    keep(s, kept);
+    close_all(s);
+    struct sangueko_answer fill = sangueko_fill(LENT(s)), write = write_at(s, 7, 0, 0, 0, 0);
+    EXPECT(what, fill.number == (is_refused ? SANGUEKO_BROKEN_RULE : 0));
+    EXPECT(what, write.number == fill.number);
+    open_all(s);
+    unchanged(what, s, kept);
+}
+
+/* What refusal 2 asks of the time of the creation, and of each bit behind it. */
+static void cards(struct store *s, uint8_t *kept[BUFFERS])
+{
+    open_all(s);
+    uint8_t *card = s->at[CARD] + SANGUEKO_CARD_BYTES;
+    put_bits(card, CREATED_NANOSECONDS, 999999999);
+    card_tried("created, the most nanoseconds", s, kept, 0);
+    put_bits(card, CREATED_NANOSECONDS, 1000000000);
+    card_tried("created, too many nanoseconds", s, kept, 1);
+    put_bits(card, CREATED_NANOSECONDS, 6);
+    put_bits(card, CREATED_SECONDS, INT64_MAX);
+    card_tried("created, the most seconds", s, kept, 0);
+    put_bits(card, CREATED_SECONDS, 5);
+    for (unsigned bit = SPARE_FROM; bit < 8 * SANGUEKO_CARD_BYTES; bit++) {
+        put_bits(card, bit, 1, 1);
+        card_tried("a spare bit", s, kept, 1);
+        put_bits(card, bit, 1, 0);
+    }
 }
 
 struct run {
@@ -520,6 +581,7 @@ static void changes(struct store *s, uint8_t *kept[BUFFERS])
     static uint8_t file[5 * SANGUEKO_BLOCK_BYTES]; /* zeros past its end */
     open_all(s);
     keep(s, kept);
+    expect_times("entered", s, (struct times){ .created = { 5, 6 }, .changed = { 5, 6 } });
 
     accepted("write 9,000", write_at(s, 7, 0, 9000, 10, 20), 9000);
     memcpy(file, bytes, 9000);
@@ -530,6 +592,7 @@ static void changes(struct store *s, uint8_t *kept[BUFFERS])
         expect_block(kept, 1 + i, file, i);
     kept[USED][0] = 0x0f;
     unchanged("write 9,000", s, kept);
+    expect_times("write 9,000", s, (struct times){ .created = { 5, 6 }, .changed = { 10, 20 } });
     reads_as("write 9,000", s, file, 9000);
 
     close_all(s);
@@ -569,6 +632,7 @@ static void changes(struct store *s, uint8_t *kept[BUFFERS])
     kept[USED][0] = 0x7f;
     kept[RETIRED][0] = 0x20;
     unchanged("grow to 20,000", s, kept);
+    expect_times("grow to 20,000", s, (struct times){ .created = { 5, 6 }, .changed = { 12, 22 } });
     reads_as("grow to 20,000", s, file, 20000);
     reads_in_pieces("many reads", s, file);
     accepted("fill, six of seven", sangueko_fill(LENT(s)), 857);
@@ -611,7 +675,7 @@ static void batches(struct store *s, uint8_t *kept[BUFFERS])
     static uint8_t file[3 * SANGUEKO_BLOCK_BYTES]; /* zeros past its end */
     open_all(s);
     accepted("fresh again", fresh(s, sizeof uuid, 1), 0);
-    accepted("enter 7 again", enter(s, 7, 0, 0), 0);
+    accepted("enter 7 again", enter(s, 7, 8, 9), 0);
     accepted("enter 5 again", enter(s, 5, 0, 0), 0);
     keep(s, kept);
 
@@ -629,6 +693,7 @@ static void batches(struct store *s, uint8_t *kept[BUFFERS])
     kept[USED][0] = 0x3f;
     kept[RETIRED][0] = 0x0c;
     unchanged("batch", s, kept);
+    expect_times("batch", s, (struct times){ .created = { 8, 9 }, .changed = { 10, 0 } });
     reads_as("batch", s, file, 9000);
 
     /* the first write is done, the second is of no file, and the third is not made */
@@ -722,14 +787,15 @@ int main(void)
     open_for(&s, (const int[]){ HEAD, CARD }, 2);
     accepted("enter 7", enter(&s, 7, 5, 6), 0);
     static const uint8_t one[12] = { 0x00, 0x04, 0x00, 0x00, 0x40, 0x00, 0x01 };
-    static const uint8_t seven[32] = { [7] = 7, [27] = 0x02, [28] = 0x80, [31] = 0x0c };
+    /* 5 seconds and 6 nanoseconds, twice: last changed and created */
+    static const uint8_t seven[SANGUEKO_CARD_BYTES] = { [7] = 7, [27] = 0x02, [28] = 0x80, [31] = 0x0c, [39] = 0x14, [43] = 0x60 };
     EXPECT("enter 7", memcmp(s.at[HEAD], uuid, 16) == 0);
     EXPECT("enter 7", memcmp(s.at[HEAD] + 16, one, 12) == 0);
-    EXPECT("enter 7", memcmp(s.at[CARD], seven, 32) == 0);
-    EXPECT("enter 7", all(s.at[CARD] + 32, 32, 0));
+    EXPECT("enter 7", memcmp(s.at[CARD], seven, sizeof seven) == 0);
+    EXPECT("enter 7", all(s.at[CARD] + sizeof seven, sizeof seven, 0));
     accepted("enter 5", enter(&s, 5, 0, 0), 0);
-    EXPECT("enter 5", s.at[HEAD][22] == 2 && s.at[CARD][7] == 5 && all(s.at[CARD] + 8, 24, 0));
-    EXPECT("enter 5", memcmp(s.at[CARD] + 32, seven, 32) == 0);
+    EXPECT("enter 5", s.at[HEAD][22] == 2 && s.at[CARD][7] == 5 && all(s.at[CARD] + 8, sizeof seven - 8, 0));
+    EXPECT("enter 5", memcmp(s.at[CARD] + sizeof seven, seven, sizeof seven) == 0);
 
     close_all(&s);
     accepted("fill, none of seven", sangueko_fill(LENT(&s)), 0);
@@ -752,6 +818,7 @@ int main(void)
     refusals(&s, kept);
     reads(&s, kept);
     broken(&s, kept);
+    cards(&s, kept);
     accepted("fill at the end", sangueko_fill(LENT(&s)), 0);
     changes(&s, kept);
     batches(&s, kept);

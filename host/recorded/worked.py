@@ -4,13 +4,14 @@
     python3 host/recorded/worked.py        (from the repository's top; `rt fmt` lays the file out)
 
 Taken from answers.bin: calls on stores of at most 8 blocks and 4 group places, on files of at most 4,200 bytes (a checksum over more takes the
-checker too long), at most two for each kind of call, number and source; accepted fills with reserved blocks and without are two kinds. The format
-is README.md's, beside this file.
+checker too long), at most two for each kind of call, number and source; accepted fills with reserved blocks and without are two kinds, accepted
+writes and grows of a file whose creation time is its last change's, none, or another are three. The format is README.md's, beside this file.
 """
 import struct
 from collections import Counter
 
 MOST_BLOCKS, MOST_GROUPS, MOST_BYTES, MOST_LITERALS, EACH = 8, 4, 4200, 2000, 2
+CARD_BYTES = 48
 BUFFERS = ['image', 'head', 'cards', 'extents', 'groups', 'used', 'retired']
 CALLS = ['fresh', 'enter', 'write', 'grow', 'read', 'settle', 'fill']
 
@@ -147,17 +148,37 @@ def written_store(store):
     return 'record { ' + '; '.join('%s = %s' % (name, written(buffer)) for name, buffer in zip(BUFFERS, store)) + ' }'
 
 
-def size_of(store, obj):
+def card_field(store, obj, at, width):
+    """Of a file's card, in bits from the most significant on; 0 where it has none."""
     head = int.from_bytes(store[1], 'big') if len(store[1]) == 28 else 0
-    for place in range(min(head >> 40 & 0xfffff, len(store[2]) // 32)):
-        card = int.from_bytes(store[2][32 * place:32 * place + 32], 'big')
-        if card >> 192 == obj:
-            return card >> 129 & (1 << 63) - 1
+    for place in range(min(head >> 40 & 0xfffff, len(store[2]) // CARD_BYTES)):
+        card = int.from_bytes(store[2][CARD_BYTES * place:CARD_BYTES * (place + 1)], 'big')
+        if card >> 8 * CARD_BYTES - 64 == obj:
+            return card >> 8 * CARD_BYTES - at - width & (1 << width) - 1
     return 0
+
+
+def size_of(store, obj):
+    return card_field(store, obj, 64, 63)
+
+
+def creation(store, obj):
+    changed, created = (card_field(store, obj, at, 63 + 30) for at in (162, 255))
+    return 'as changed' if created == changed else 'other' if created else 'none'
 
 
 def reserved(store):
     return int.from_bytes(store[1], 'big') >> 62 & (1 << 17) - 1
+
+
+def kind(source, call, number, store):
+    """Of which EACH are taken."""
+    more = None
+    if number == 0 and call[0] == 'fill':
+        more = reserved(store) > 0
+    if number == 0 and call[0] in ('write', 'grow'):
+        more = creation(store, call[1])
+    return call[0], number, source, more
 
 
 def light(call, number, store, after):
@@ -177,10 +198,10 @@ def main():
         entries = list(Reader(f.read()).entries())
     text, taken = [HEADER], Counter()
     for n, (source, call, number, count, out, store, after) in enumerate(entries):
-        kind = (call[0], number, source, call[0] == 'fill' and number == 0 and reserved(store) > 0)
-        if taken[kind] == EACH or not light(call, number, store, after):
+        of = kind(source, call, number, store)
+        if taken[of] == EACH or not light(call, number, store, after):
             continue
-        taken[kind] += 1
+        taken[of] += 1
         left = 'before%d' % n if store == after else 'after%d' % n
         text.append('-- entry %d, %s: %s' % (n, call[0], 'refused by %d' % number if number else 'accepted'))
         text.append('pub before%d : Store\nbefore%d = %s\n' % (n, n, written_store(store)))
@@ -191,7 +212,7 @@ def main():
         text.append('unfolding opened ramp before%d%s\nentry%d = refl\n' % (n, '' if store == after else ' ' + left, n))
     with open('crates/recorded_answers/proofs/Recorded.antt', 'w', encoding='utf-8') as f:
         f.write('\n'.join(text))
-    print(f'{sum(taken.values())} calls:', ', '.join(f'{k} {n}' for (k, n, *_), c in sorted(taken.items()) for _ in range(c)))
+    print(f'{sum(taken.values())} calls:', ', '.join(f'{k} {n}' for (k, n, *_), c in sorted(taken.items(), key=lambda item: item[0][:2]) for _ in range(c)))
 
 
 main()

@@ -2,7 +2,7 @@
 //! written, and another beside it.
 
 use model::crc32c::unit_checksum;
-use model::{BLOCK_BYTES, Card, Extent, Group, Store, Volume};
+use model::{BLOCK_BYTES, Card, Extent, Group, Store, Time, Volume};
 use random::Rng;
 
 use crate::checksum::by_instruction;
@@ -16,6 +16,12 @@ const IN_FRONT: u64 = 5;
 const BLOCKS: u64 = 65_536;
 const UNIT_BLOCKS: u64 = 16;
 const UUID: [u8; 16] = [7; 16];
+
+/// When the files were made; the calls that are measured have a later time.
+const MADE: Time = Time {
+    seconds: 1_700_000_000,
+    nanoseconds: 0,
+};
 
 /// How many extents each of the two files has, places of the book of groups at
 /// least (a place has 1,073 bytes, which every call tests), and whether the other
@@ -142,8 +148,8 @@ pub fn store(extents: Extents) -> Store {
         object,
         size: counts.iter().sum::<u64>() * BLOCK_BYTES as u64,
         allocated: counts.iter().sum(),
-        seconds: 1_700_000_000,
-        nanoseconds: 0,
+        changed: MADE,
+        created: MADE,
     };
     let own = card(OBJECT, &file);
     let units = own.size / (UNIT_BLOCKS * BLOCK_BYTES as u64);

@@ -4,8 +4,8 @@
 //! refusals 1 and 2, which a test sees.
 
 use model::crc32c::unit_checksum;
-use model::records::{CARD_BYTES, EXTENT_BYTES, GROUP_BYTES, put_bits};
-use model::{BLOCK_BYTES, Call, Card, Extent, Group, Store, Time, UNIT_BYTES, Volume};
+use model::records::{CARD_BYTES, CARD_SPARE, EXTENT_BYTES, GROUP_BYTES, put_bits};
+use model::{BLOCK_BYTES, Call, Card, Extent, Group, MAX_SIZE, Store, Time, UNIT_BYTES, Volume};
 
 use crate::lists::read_many;
 use crate::writes::{batch_of, write_batch};
@@ -100,8 +100,9 @@ pub fn sound(cut: bool) -> Store {
         object,
         size,
         allocated: size.div_ceil(BLOCK_BYTES as u64),
-        seconds: 1,
-        nanoseconds: 999_999_999,
+        changed: Time::new(1, 999_999_999),
+        // Another for every card.
+        created: Time::new(MAX_SIZE.min(object), 999_999_999),
     };
     let sizes = [
         (1, 0),
@@ -373,7 +374,7 @@ fn lengths(list: &mut List) {
         head(145, 17, 91),
     );
     list.add_unnamed(1, "other blocks, and a spare bit", |s| {
-        s.cards[31] |= 1;
+        put_bits(&mut s.cards, CARD_SPARE.start, 1, 1);
         head(128, 17, 91)(s);
     });
 }
@@ -442,14 +443,35 @@ fn cards(list: &mut List) {
     bytes_after(list, "a byte after the cards", 11 * CARD_BYTES, |s| {
         &mut s.cards
     });
-    for at in [0, 5, 10] {
-        list.add("card with its spare bit", 2, format!("{at}"), |s| {
-            s.cards[at * CARD_BYTES + 31] |= 1;
+    card_bits(list);
+}
+
+/// Each of the spare bits alone, and nanoseconds from 1,000,000,000 on: of the
+/// last change, of the creation, and of both.
+fn card_bits(list: &mut List) {
+    let ends = [CARD_SPARE.start, CARD_SPARE.end - 1];
+    let spare = CARD_SPARE.map(|bit| (5, bit));
+    let spare = spare.chain([0, 10].into_iter().flat_map(|at| ends.map(|bit| (at, bit))));
+    for (at, bit) in spare {
+        list.add("card with spare bits", 2, format!("{at} {bit}"), |s| {
+            put_bits(&mut s.cards[at * CARD_BYTES..], bit, 1, 1);
         });
+    }
+    for at in [0, 5, 10] {
         for nanoseconds in [1_000_000_000, 1_000_000_001, (1 << 30) - 1] {
             let word = "card with nanoseconds of 1,000,000,000 or more";
             list.volume(word, format!("{at}"), |v| {
-                v.cards[at].nanoseconds = nanoseconds
+                v.cards[at].changed.nanoseconds = nanoseconds
+            });
+            let word = "card with creation nanoseconds of 1,000,000,000 or more";
+            list.volume(word, format!("{at}"), |v| {
+                v.cards[at].created.nanoseconds = nanoseconds
+            });
+            list.add_unnamed(2, "card with nanoseconds of both times too many", |s| {
+                let mut volume = Volume::decode(s);
+                volume.cards[at].changed.nanoseconds = nanoseconds;
+                volume.cards[at].created.nanoseconds = nanoseconds;
+                volume.encode(s);
             });
         }
     }
@@ -686,8 +708,8 @@ fn words(list: &mut List) {
             object,
             size,
             allocated: 80,
-            seconds: 0,
-            nanoseconds: 0,
+            changed: TIME,
+            created: TIME,
         });
     }
     let extent = Extent {

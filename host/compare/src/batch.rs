@@ -479,8 +479,8 @@ fn shares(first: Place, second: Place) -> Arc<Store> {
             object,
             size: 12 * BLOCK,
             allocated: 12,
-            seconds: 1,
-            nanoseconds: 2,
+            changed: Time::new(1, 2),
+            created: Time::new(3, object),
         });
         volume.groups.push(Group::empty(object, 0));
     }

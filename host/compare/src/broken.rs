@@ -3,7 +3,7 @@
 //! Rust has no such calls. `alone` breaks each word alone, everywhere and for
 //! every call; these stay as they are recorded.
 
-use model::records::{CARD_BYTES, EXTENT_BYTES, GROUP_BYTES, put_bits};
+use model::records::{CARD_BYTES, CARD_SPARE, EXTENT_BYTES, GROUP_BYTES, put_bits};
 use model::{Call, Card, Extent, Group, Store, Time, Volume};
 
 pub struct Broken {
@@ -27,7 +27,10 @@ pub fn sound_store() -> Store {
         bytes: (0..length).map(|n| (n * 7) as u8).collect(),
         time: TIME,
     };
-    let enter = |object| Call::Enter { object, time: TIME };
+    let enter = |object| Call::Enter {
+        object,
+        time: Time::new(3, object),
+    };
     let calls = [
         Call::Fresh {
             uuid: (1..=16).collect(),
@@ -98,7 +101,9 @@ pub fn broken_stores() -> Vec<Broken> {
     add("retired map too long", 1, &|s| s.retired.resize(9, 0));
     add("no retired map", 1, &|s| s.retired.clear());
     add("cards not whole", 1, &|s| s.cards.push(0));
-    add("extents not whole", 1, &|s| s.extents.truncate(33 * 8 - 1));
+    add("extents not whole", 1, &|s| {
+        s.extents.truncate(EXTENT_BYTES * 8 - 1);
+    });
     add("groups not whole", 1, &|s| s.groups.push(0));
     add("head too short", 1, &|s| s.head.truncate(27));
     add("head too long", 1, &|s| s.head.push(0));
@@ -126,19 +131,20 @@ pub fn broken_stores() -> Vec<Broken> {
     add("groups equal", 2, &|s| {
         s.groups.copy_within(..GROUP_BYTES, GROUP_BYTES);
     });
-    add("a byte after the cards", 2, &|s| s.cards[4 * 32 - 1] = 1);
-    add("a byte after the extents", 2, &|s| s.extents[33 * 7] = 1);
-    add("a byte after the groups", 2, &|s| s.groups[2 * 1_073] = 1);
+    add("a byte after the cards", 2, &|s| {
+        s.cards[4 * CARD_BYTES - 1] = 1;
+    });
+    add("a byte after the extents", 2, &|s| {
+        s.extents[7 * EXTENT_BYTES] = 1;
+    });
+    add("a byte after the groups", 2, &|s| {
+        s.groups[2 * GROUP_BYTES] = 1;
+    });
     add("extent with another kind", 2, &|s| s.extents[8] = 4);
-    add("extent with a byte at its end", 2, &|s| s.extents[32] = 1);
+    add("extent with a byte at its end", 2, &|s| {
+        s.extents[EXTENT_BYTES - 1] = 1;
+    });
     add("group with another kind", 2, &|s| s.groups[8] = 3);
-    add("card with its spare bit", 2, &|s| s.cards[31] |= 1);
-    add("nanoseconds", 2, &|s| {
-        put_bits(&mut s.cards, 225, 30, 1_000_000_000);
-    });
-    add("slot not present but not zero", 2, &|s| {
-        s.groups[17 + 32 + 4 * 255 + 3] = 1;
-    });
     let volume = |change: fn(&mut Volume)| {
         move |store: &mut Store| {
             let mut volume = Volume::decode(store);
@@ -146,6 +152,17 @@ pub fn broken_stores() -> Vec<Broken> {
             volume.encode(store);
         }
     };
+    add("card with a spare bit", 2, &|s| {
+        put_bits(&mut s.cards, CARD_SPARE.end - 1, 1, 1);
+    });
+    add(
+        "nanoseconds",
+        2,
+        &volume(|v| v.cards[0].changed.nanoseconds = 1_000_000_000),
+    );
+    add("slot not present but not zero", 2, &|s| {
+        s.groups[GROUP_BYTES - 1] = 1;
+    });
     add("extent of no block", 2, &volume(|v| v.extents[0].count = 0));
     add("extents overlap", 2, &volume(|v| v.extents[0].count = 2));
     add(
@@ -289,8 +306,8 @@ pub fn broken_stores() -> Vec<Broken> {
         object: 11,
         size: model::MAX_SIZE,
         allocated: model::MAX_ALLOCATED,
-        seconds: model::MAX_SIZE,
-        nanoseconds: 999_999_999,
+        changed: Time::new(model::MAX_SIZE, 999_999_999),
+        created: Time::new(model::MAX_SIZE, 999_999_999),
     });
     volume.extents.push(Extent {
         object: 11,

@@ -8,6 +8,8 @@ use model::{
 
 use random::Rng;
 
+use crate::generate::good_time;
+
 /// What was done, and which image bytes now hold what.
 pub struct Damage {
     pub name: &'static str,
@@ -27,6 +29,7 @@ pub fn damage(rng: &mut Rng, store: &mut Store) -> Option<Damage> {
     for _ in 0..rng.between(1, 3) {
         name = one_damage(rng, &mut volume, store, &mut image);
     }
+    other_creation_times(rng, &mut volume);
     let old: Vec<(usize, u8)> = image.iter().map(|&(at, _)| (at, store.image[at])).collect();
     for &(at, byte) in &image {
         store.image[at] = byte;
@@ -48,6 +51,17 @@ pub fn damage(rng: &mut Rng, store: &mut Store) -> Option<Damage> {
         *to = from;
     }
     None
+}
+
+/// Some files were created at other times, by a generator of their own: they
+/// decide nothing, so that the history goes on as it would without them.
+fn other_creation_times(rng: &Rng, volume: &mut Volume) {
+    let mut rng = Rng::new(!rng.clone().next_u64());
+    for card in &mut volume.cards {
+        if rng.percent(40) {
+            card.created = good_time(&mut rng);
+        }
+    }
 }
 
 /// Cut every extent into single blocks, if the book has room for them.

@@ -11,6 +11,7 @@ use model::{
 
 use crate::alone::{TIME, fresh, seal};
 use crate::batch::batches;
+use crate::created::created;
 use crate::lists::read_many;
 use crate::many::many;
 use crate::smallest::smallest;
@@ -31,7 +32,7 @@ pub(crate) fn edge(name: impl Into<String>, store: &Arc<Store>, call: Call) -> E
     }
 }
 
-fn write_at(object: u64, offset: u64, length: usize, time: Time) -> Call {
+pub(crate) fn write_at(object: u64, offset: u64, length: usize, time: Time) -> Call {
     Call::Write {
         object,
         offset,
@@ -52,7 +53,7 @@ pub(crate) fn grow(object: u64, size: u64) -> Call {
     }
 }
 
-fn read(object: u64, offset: u64, length: usize) -> Call {
+pub(crate) fn read(object: u64, offset: u64, length: usize) -> Call {
     Call::Read {
         object,
         offset,
@@ -60,8 +61,10 @@ fn read(object: u64, offset: u64, length: usize) -> Call {
     }
 }
 
+/// Every file has a creation time of its own, which is no change's.
 pub(crate) fn enter(object: u64) -> Call {
-    Call::Enter { object, time: TIME }
+    let time = Time::new(3, object % 1_000_000_000);
+    Call::Enter { object, time }
 }
 
 /// A store after fresh and these calls.
@@ -100,6 +103,7 @@ pub fn edges() -> Vec<Edge> {
     fills(&mut all);
     all.extend(many());
     all.extend(batches());
+    all.extend(created());
     all
 }
 
@@ -628,8 +632,8 @@ pub(crate) fn pair(first: Unit, second: Unit, free: usize, count: Option<u64>) -
         object,
         size,
         allocated,
-        seconds: 1,
-        nanoseconds: 2,
+        changed: Time::new(1, 2),
+        created: Time::new(3, object),
     };
     let mut volume = Volume {
         uuid: [9; 16],

@@ -288,7 +288,8 @@ fn object(rng: &mut Rng, objects: &[u64], volume: &Volume) -> u64 {
     }
 }
 
-fn good_time(rng: &mut Rng) -> Time {
+/// A time that refusal 7 passes.
+pub fn good_time(rng: &mut Rng) -> Time {
     let seconds = if rng.percent(10) {
         MAX_SIZE
     } else {

@@ -6,6 +6,7 @@
 pub mod alone;
 pub mod batch;
 pub mod broken;
+pub mod created;
 pub mod damage;
 pub mod differences;
 pub mod edges;

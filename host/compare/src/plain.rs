@@ -3,7 +3,7 @@
 
 use std::collections::{BTreeMap, BTreeSet};
 
-use model::{Answer, Call, MAX_TRANSFER_BYTES, MAX_TRIPLES, Store, Triple, Volume};
+use model::{Answer, Call, Card, MAX_TRANSFER_BYTES, MAX_TRIPLES, Store, Time, Triple, Volume};
 
 use crate::generate::Profile;
 use crate::library::Library;
@@ -12,14 +12,29 @@ use crate::walk::Walk;
 use crate::writes::single_writes;
 
 /// An object's bytes: zeros up to its size, which may be 2^63 - 1, under the
-/// writes in their order.
-#[derive(Default)]
+/// writes in their order. And, beside the plain arrays, its times.
 struct Plain {
     size: u64,
     writes: Vec<(u64, Vec<u8>)>,
+    changed: Time,
+    created: Time,
 }
 
 impl Plain {
+    fn new(time: Time) -> Self {
+        Self {
+            size: 0,
+            writes: Vec::new(),
+            changed: time,
+            created: time,
+        }
+    }
+
+    /// Whether the card has the object's size and times.
+    fn agrees(&self, card: &Card) -> bool {
+        (card.size, card.changed, card.created) == (self.size, self.changed, self.created)
+    }
+
     fn bytes(&self, offset: u64, count: u64) -> Vec<u8> {
         let mut bytes = vec![0; count as usize];
         for (start, written) in &self.writes {
@@ -50,27 +65,28 @@ impl Plain {
 fn step(files: &mut BTreeMap<u64, Plain>, call: &Call, done: u64) {
     match call {
         Call::Fresh { .. } => files.clear(),
-        Call::Enter { object, .. } => {
-            files.insert(*object, Plain::default());
+        Call::Enter { object, time } => {
+            files.insert(*object, Plain::new(*time));
         }
         Call::Write {
             object,
             offset,
             bytes,
-            ..
+            time,
         } => {
             let file = files.get_mut(object).expect("a write that was accepted");
             let taken = &bytes[..bytes.len().min(MAX_TRANSFER_BYTES)];
             if !taken.is_empty() {
                 file.size = file.size.max(offset + taken.len() as u64);
                 file.writes.push((*offset, taken.to_vec()));
+                file.changed = *time;
             }
         }
-        Call::Grow { object, size, .. } => {
-            files
-                .get_mut(object)
-                .expect("a grow that was accepted")
-                .size = *size;
+        Call::Grow { object, size, time } => {
+            let file = files.get_mut(object).expect("a grow that was accepted");
+            if file.size != *size {
+                (file.size, file.changed) = (*size, *time);
+            }
         }
         Call::WriteBatch { .. } => {
             for write in single_writes(call).iter().take(done as usize) {
@@ -79,6 +95,18 @@ fn step(files: &mut BTreeMap<u64, Plain>, call: &Call, done: u64) {
         }
         Call::Read { .. } | Call::ReadMany { .. } | Call::Settle | Call::Fill => {}
     }
+}
+
+/// There is a card for every file, which has its size, the time of the enter
+/// that made it, and that of its last change.
+fn cards_agree(store: &Store, files: &BTreeMap<u64, Plain>) -> bool {
+    let cards = Volume::decode(store).cards;
+    let agrees = |card: &Card| {
+        files
+            .get(&card.object)
+            .is_some_and(|file| file.agrees(card))
+    };
+    cards.len() == files.len() && cards.iter().all(agrees)
 }
 
 /// "for each block, being reserved, free, retired, and each place of each
@@ -112,10 +140,10 @@ fn blocks_add_up(store: &Store, reserved: u64) -> bool {
 /// The calls of a history through the library: every accepted read, and many
 /// in one call, have the plain array's count and bytes, a batch has number 0
 /// where all of its writes were done and there alone, every block is in one
-/// place, every card's count is right, and no number comes that demand 3 shuts
-/// out. At the end every byte that was written is read again, by single reads
-/// and by many in one call. Calls that the library does not have are the
-/// model's. Gives the number of its calls.
+/// place, every card's count, size and times are right, and no number comes
+/// that demand 3 shuts out. At the end every byte that was written is read
+/// again, by single reads and by many in one call. Calls that the library does
+/// not have are the model's. Gives the number of its calls.
 pub fn demand_3(library: &dyn Library, seed: u64, number: u64) -> u64 {
     let mut walk = Walk::with_lists(seed, number);
     if walk.history.profile == Profile::Groups {
@@ -152,6 +180,7 @@ pub fn demand_3(library: &dyn Library, seed: u64, number: u64) -> u64 {
         }
         read_is_plain(&files, &call, &answer, &what);
         assert!(blocks_add_up(&walk.store, reserved_by_fresh), "{what}");
+        assert!(cards_agree(&walk.store, &files), "{what}: the cards part");
     }
     for call in reads_of_all(&files) {
         let answer = ask(&mut walk.store, &call);

@@ -1,13 +1,13 @@
 //! Bytes and lengths of a store changed at random, whatever refusals 1 and 2
 //! make of them.
 
-use model::records::{CARD_BYTES, EXTENT_BYTES, GROUP_BYTES, Head};
-use model::{BLOCK_BYTES, Store};
+use model::records::{CARD_BYTES, CARD_SPARE, EXTENT_BYTES, GROUP_BYTES, Head, put_bits};
+use model::{BLOCK_BYTES, Card, MAX_SIZE, Store};
 use random::Rng;
 
-/// Change the store: bits, fields or lengths.
+/// Change the store: bits, fields, times or lengths.
 pub fn roughen(rng: &mut Rng, store: &mut Store) {
-    match rng.below(8) {
+    match rng.below(9) {
         0..4 => {
             for _ in 0..rng.between(1, 2) {
                 flip(rng, store);
@@ -15,6 +15,7 @@ pub fn roughen(rng: &mut Rng, store: &mut Store) {
         }
         4 | 5 => field(rng, store),
         6 => length(rng, store),
+        7 => times(rng, store),
         _ => image(rng, store),
     }
 }
@@ -61,6 +62,31 @@ fn field(rng: &mut Rng, store: &mut Store) {
             _ => 255,
         };
     }
+}
+
+/// A time of a card at or past its bounds, or a spare bit behind it.
+fn times(rng: &mut Rng, store: &mut Store) {
+    let cards = live(store)[2] / CARD_BYTES;
+    if cards == 0 {
+        return;
+    }
+    let place = &mut store.cards[rng.index(cards) * CARD_BYTES..][..CARD_BYTES];
+    let mut card = Card::decode(place);
+    let time = if rng.percent(50) {
+        &mut card.created
+    } else {
+        &mut card.changed
+    };
+    match rng.below(3) {
+        0 => time.seconds = rng.pick(&[0, 1 << 62, MAX_SIZE]),
+        1 => time.nanoseconds = rng.pick(&[0, 999_999_999, 1_000_000_000, (1 << 30) - 1]),
+        _ => {
+            let bit = CARD_SPARE.start + rng.index(CARD_SPARE.len());
+            put_bits(place, bit, 1, 1);
+            return;
+        }
+    }
+    card.encode(place);
 }
 
 /// Another length of one buffer: by a byte, a record, or to nothing.

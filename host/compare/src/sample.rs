@@ -5,6 +5,7 @@ use std::collections::BTreeMap;
 use model::{Call, GROUP_BLOCKS, Store, passes_refusals_1_and_2};
 
 use crate::broken::broken_stores;
+use crate::created;
 use crate::generate::{History, Profile};
 use crate::recorded::{Case, Source, Writer};
 use crate::run::{Verdict, judge};
@@ -37,6 +38,9 @@ pub fn answers(seed: u64) -> (Vec<u8>, usize) {
     choose(seed, &mut writer, wanted, HISTORIES);
     for smallest in later {
         writer.case(&told(&smallest.store, &smallest.call));
+    }
+    for edge in created::recorded() {
+        writer.case(&told(&edge.store, &edge.call));
     }
     let calls = writer.calls;
     (writer.finish(), calls)

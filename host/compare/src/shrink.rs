@@ -4,7 +4,7 @@ use std::fmt::Write;
 use std::time::{Duration, Instant};
 
 use model::records::TRIPLE_BYTES;
-use model::{BLOCK_BYTES, Call, Extent, Store, Triple, Volume, passes_refusals_1_and_2};
+use model::{BLOCK_BYTES, Call, Extent, Store, Time, Triple, Volume, passes_refusals_1_and_2};
 
 use crate::lists::lengths;
 
@@ -299,10 +299,15 @@ pub fn describe(store: &Store, call: &Call) -> String {
         store.group_places()
     );
     for card in &volume.cards {
+        let time = |time: Time| format!("{}.{:09}", time.seconds, time.nanoseconds);
         let _ = writeln!(
             text,
-            "  card {}: size {}, allocated {}",
-            card.object, card.size, card.allocated
+            "  card {}: size {}, allocated {}, changed {}, created {}",
+            card.object,
+            card.size,
+            card.allocated,
+            time(card.changed),
+            time(card.created)
         );
     }
     for e in &volume.extents {

@@ -45,8 +45,8 @@ fn card(size: u64, allocated: u64) -> Option<Card> {
         object: 0,
         size,
         allocated,
-        seconds: 0,
-        nanoseconds: 0,
+        changed: TIME,
+        created: TIME,
     })
 }
 

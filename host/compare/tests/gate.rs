@@ -108,6 +108,11 @@ fn what_a_library_does_wrong_is_told() {
             "a batch that stops before its first write told as refused",
             24,
         ),
+        ("a write sets both times", 1),
+        (
+            "a card put before others leaves their creation times in their places",
+            1,
+        ),
         ("image of no block", 0),
     ] {
         let wrong = library(Wrong::named(name).expect("listed"));

@@ -14,16 +14,9 @@ fn reads_give_the_plain_arrays_bytes_and_blocks_add_up() {
     assert!(calls > 2_000, "{calls} calls");
 }
 
-/// What is wrong with many reads in one call shows against plain arrays, too.
-#[test]
-fn many_reads_that_are_wrong_are_found() {
-    for name in [
-        "a piece laid behind the bytes handed out before it",
-        "a piece's unread rest cleared",
-        "a read that equals an earlier one leaves its piece",
-        "a unit counted for each read",
-        "a unit of a hole not counted",
-    ] {
+/// Each of these wrong models parts from the plain arrays.
+fn all_found(names: &[&str]) {
+    for name in names {
         let wrong = Wrong::named(name).expect("listed");
         let library = move |store: &mut Store, call: &Call| wrong.run(store, call);
         let found = |number| catch_unwind(|| demand_3(&Whole(library), 11, number)).is_err();
@@ -31,11 +24,23 @@ fn many_reads_that_are_wrong_are_found() {
     }
 }
 
+/// What is wrong with many reads in one call shows against plain arrays, too.
+#[test]
+fn many_reads_that_are_wrong_are_found() {
+    all_found(&[
+        "a piece laid behind the bytes handed out before it",
+        "a piece's unread rest cleared",
+        "a read that equals an earlier one leaves its piece",
+        "a unit counted for each read",
+        "a unit of a hole not counted",
+    ]);
+}
+
 /// And what is wrong with a batch: what the plain arrays are told of it are the
 /// writes done.
 #[test]
 fn batches_that_are_wrong_are_found() {
-    for name in [
+    all_found(&[
         "a batch counts bytes",
         "a batch counts the write that stopped it",
         "a batch that stops counts nothing",
@@ -47,12 +52,31 @@ fn batches_that_are_wrong_are_found() {
         "each write of a batch made on the store as lent",
         "an empty write of a batch not counted",
         "the count of blocks carried from one write of a batch to the next",
-    ] {
-        let wrong = Wrong::named(name).expect("listed");
-        let library = move |store: &mut Store, call: &Call| wrong.run(store, call);
-        let found = |number| catch_unwind(|| demand_3(&Whole(library), 11, number)).is_err();
-        assert!((0..200).any(found), "{name}");
-    }
+    ]);
+}
+
+/// And what is wrong with the times of a card.
+#[test]
+fn times_that_are_wrong_are_found() {
+    all_found(&[
+        "enter sets only the last change",
+        "enter sets only the creation time",
+        "enter sets the creation time of every file",
+        "a card put before others leaves their creation times in their places",
+        "a write sets both times",
+        "a grow sets both times",
+        "a batch sets both times",
+        "a write loses the creation time",
+        "a grow loses the creation time",
+        "a batch loses the creation times",
+        "a write exchanges the two times",
+        "a write sets the last change of every file",
+        "settle loses the creation times",
+        "a card's creation seconds read as 62 bits",
+        "a card's creation nanoseconds read as 29 bits",
+        "the time of a rewritten file kept",
+        "a grow to the same size sets the time",
+    ]);
 }
 
 #[test]

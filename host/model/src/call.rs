@@ -4,11 +4,20 @@
 /// handed out can be seen to be left alone.
 pub const READ_FILL: u8 = 165;
 
-/// The lent time.
+/// A time, as a caller lends it and as a card has it.
 #[derive(Clone, Copy, Debug, PartialEq, Eq)]
 pub struct Time {
     pub seconds: u64,
     pub nanoseconds: u64,
+}
+
+impl Time {
+    pub const fn new(seconds: u64, nanoseconds: u64) -> Self {
+        Self {
+            seconds,
+            nanoseconds,
+        }
+    }
 }
 
 #[derive(Clone, Debug, PartialEq, Eq)]

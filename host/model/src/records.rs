@@ -1,11 +1,18 @@
 //! The records of document 01: head, card, extent, group and block maps, and
-//! the volume that they make up; and the triples of document 02's lists.
+//! the volume that they make up; of document 02 the card's creation time and the
+//! triples of its lists.
 
+use std::ops::Range;
+
+use crate::call::Time;
 use crate::store::Store;
 use crate::{BLOCK_BYTES, UNITS_PER_GROUP};
 
 pub const HEAD_BYTES: usize = 28;
-pub const CARD_BYTES: usize = 32;
+/// W-205: "The card grows to 48 bytes".
+pub const CARD_BYTES: usize = 48;
+/// The bits behind a card's fields, which are zero.
+pub const CARD_SPARE: Range<usize> = 348..CARD_BYTES * 8;
 pub const EXTENT_BYTES: usize = 33;
 pub const GROUP_BYTES: usize = 1_073;
 pub const KEY_BYTES: usize = 17;
@@ -73,15 +80,16 @@ impl Head {
     }
 }
 
-/// object 64, size 63, allocated blocks 35, seconds 63, nanoseconds 30,
-/// spare 1 (zero).
+/// object 64, size 63, allocated blocks 35, seconds 63, nanoseconds 30; W-205:
+/// "its first 255 bits as before, then creation seconds 63 bits and nanoseconds
+/// 30, then 36 zero bits."
 #[derive(Clone, Copy, Debug, PartialEq, Eq)]
 pub struct Card {
     pub object: u64,
     pub size: u64,
     pub allocated: u64,
-    pub seconds: u64,
-    pub nanoseconds: u64,
+    pub changed: Time,
+    pub created: Time,
 }
 
 impl Card {
@@ -90,8 +98,14 @@ impl Card {
             object: bits(bytes, 0, 64) as u64,
             size: bits(bytes, 64, 63) as u64,
             allocated: bits(bytes, 127, 35) as u64,
-            seconds: bits(bytes, 162, 63) as u64,
-            nanoseconds: bits(bytes, 225, 30) as u64,
+            changed: Time {
+                seconds: bits(bytes, 162, 63) as u64,
+                nanoseconds: bits(bytes, 225, 30) as u64,
+            },
+            created: Time {
+                seconds: bits(bytes, 255, 63) as u64,
+                nanoseconds: bits(bytes, 318, 30) as u64,
+            },
         }
     }
 
@@ -99,9 +113,11 @@ impl Card {
         put_bits(bytes, 0, 64, self.object.into());
         put_bits(bytes, 64, 63, self.size.into());
         put_bits(bytes, 127, 35, self.allocated.into());
-        put_bits(bytes, 162, 63, self.seconds.into());
-        put_bits(bytes, 225, 30, self.nanoseconds.into());
-        put_bits(bytes, 255, 1, 0);
+        put_bits(bytes, 162, 63, self.changed.seconds.into());
+        put_bits(bytes, 225, 30, self.changed.nanoseconds.into());
+        put_bits(bytes, 255, 63, self.created.seconds.into());
+        put_bits(bytes, 318, 30, self.created.nanoseconds.into());
+        put_bits(bytes, CARD_SPARE.start, CARD_SPARE.len(), 0);
     }
 }
 
@@ -394,16 +410,83 @@ mod tests {
             object: 0x0102_0304_0506_0708,
             size: 1,
             allocated: 1,
-            seconds: 1,
-            nanoseconds: 1,
+            changed: Time::new(1, 1),
+            created: Time::new(1, 1),
         };
         let mut bytes = [0xff; CARD_BYTES];
         card.encode(&mut bytes);
         assert_eq!(bytes[..8], [1, 2, 3, 4, 5, 6, 7, 8]);
-        // Sizes end at bit 127, counts at 162, seconds at 225, nanoseconds at 255.
+        // Sizes end at bit 127, counts at 162, seconds at 225, nanoseconds at
+        // 255; creation seconds at 318, their nanoseconds at 348.
         assert_eq!(bytes[8..16], [0, 0, 0, 0, 0, 0, 0, 2]);
         assert_eq!(bytes[16..24], [0, 0, 0, 0, 0x40, 0, 0, 0]);
         assert_eq!(bytes[24..32], [0, 0, 0, 0, 0x80, 0, 0, 2]);
+        assert_eq!(bytes[32..40], [0, 0, 0, 0, 0, 0, 0, 4]);
+        assert_eq!(bytes[40..], [0, 0, 0, 0x10, 0, 0, 0, 0]);
+        assert_eq!(Card::decode(&bytes), card);
+    }
+
+    /// A field of ones between fields of zeros, and of zeros between ones: every
+    /// bit on either side of a border between two fields.
+    #[test]
+    fn card_fields_meet_without_a_gap() {
+        let ones = |from: usize, to: usize| {
+            let mut bytes = [0; CARD_BYTES];
+            for bit in from..to {
+                bytes[bit / 8] |= 0x80 >> (bit % 8);
+            }
+            bytes
+        };
+        let fields: [(usize, usize, fn(&mut Card) -> &mut u64); 7] = [
+            (0, 64, |card| &mut card.object),
+            (64, 127, |card| &mut card.size),
+            (127, 162, |card| &mut card.allocated),
+            (162, 225, |card| &mut card.changed.seconds),
+            (225, 255, |card| &mut card.changed.nanoseconds),
+            (255, 318, |card| &mut card.created.seconds),
+            (318, 348, |card| &mut card.created.nanoseconds),
+        ];
+        let zero = Card::decode(&[0; CARD_BYTES]);
+        let mut full = Card::decode(&[0xff; CARD_BYTES]);
+        for (from, to, field) in fields {
+            let most = u64::MAX >> (64 - (to - from));
+            assert_eq!(*field(&mut full), most);
+            let mut card = zero;
+            *field(&mut card) = most;
+            let mut bytes = [0xff; CARD_BYTES];
+            card.encode(&mut bytes);
+            assert_eq!(bytes, ones(from, to));
+            assert_eq!(Card::decode(&bytes), card);
+        }
+        let mut bytes = [0xff; CARD_BYTES];
+        full.encode(&mut bytes);
+        assert_eq!(bytes, ones(0, CARD_SPARE.start));
+    }
+
+    /// The bits on both sides of every border between two fields are set, but
+    /// for the spare ones.
+    #[test]
+    fn a_card_worked_out_by_hand() {
+        let card = Card {
+            object: 7,
+            size: 100_001,
+            allocated: (1 << 34) + 5,
+            changed: Time::new((1 << 62) + 1_700_000_001, 999_999_999),
+            created: Time::new((1 << 62) + 100_000_001, 987_654_321),
+        };
+        // 0x186a1, 0x4_0000_0005, 0x4000_0000_6553_f101 and 0x3b9a_c9ff,
+        // 0x4000_0000_05f5_e101 and 0x3ade_68b1.
+        let expected = [
+            [0, 0, 0, 0, 0, 0, 0, 7],
+            [0, 0, 0, 0, 0, 0x03, 0x0d, 0x43],
+            [0, 0, 0, 0x01, 0x60, 0, 0, 0],
+            [0x32, 0xa9, 0xf8, 0x80, 0xf7, 0x35, 0x93, 0xff],
+            [0, 0, 0, 0, 0x17, 0xd7, 0x84, 0x07],
+            [0xad, 0xe6, 0x8b, 0x10, 0, 0, 0, 0],
+        ];
+        let mut bytes = [0xff; CARD_BYTES];
+        card.encode(&mut bytes);
+        assert_eq!(bytes, *expected.as_flattened());
         assert_eq!(Card::decode(&bytes), card);
     }
 

@@ -7,8 +7,8 @@ use std::collections::BTreeSet;
 use crate::call::{Answer, Call, Time};
 use crate::crc32c::unit_checksum;
 use crate::records::{
-    CARD_BYTES, Card, EXTENT_BYTES, Extent, GROUP_BYTES, Group, HEAD_BYTES, Head, KEY_BYTES,
-    TRIPLE_BYTES, Triple, Volume, bits, map_bit,
+    CARD_BYTES, CARD_SPARE, Card, EXTENT_BYTES, Extent, GROUP_BYTES, Group, HEAD_BYTES, Head,
+    KEY_BYTES, TRIPLE_BYTES, Triple, Volume, bits, map_bit,
 };
 use crate::store::{Store, map_bytes};
 use crate::{
@@ -126,6 +126,15 @@ fn packed_and_ascending(book: &[u8], record: usize, number: usize, key: usize) -
     keys.is_sorted_by(|a, b| a < b) && rest.iter().all(|&byte| byte == 0)
 }
 
+/// Of refusal 2: "spare bytes, nanoseconds 1,000,000,000 or more"; W-205: it
+/// "tests the new nanoseconds and spare bits too."
+fn card_is_right(bytes: &[u8]) -> bool {
+    let card = Card::decode(bytes);
+    bits(bytes, CARD_SPARE.start, CARD_SPARE.len()) == 0
+        && card.changed.nanoseconds < 1_000_000_000
+        && card.created.nanoseconds < 1_000_000_000
+}
+
 /// Refusal 2's words on the books.
 fn books_keep_the_rules(store: &Store) -> bool {
     let head = Head::decode(&store.head);
@@ -138,8 +147,7 @@ fn books_keep_the_rules(store: &Store) -> bool {
     }
     // "fixed or spare bytes, nanoseconds 1,000,000,000 or more"
     let mut cards = store.cards.chunks(CARD_BYTES).take(head.cards);
-    if !cards.all(|card| bits(card, 255, 1) == 0 && Card::decode(card).nanoseconds < 1_000_000_000)
-    {
+    if !cards.all(card_is_right) {
         return false;
     }
     let mut extents = store.extents.chunks(EXTENT_BYTES).take(head.extents);
@@ -238,7 +246,8 @@ fn time_is_bad(time: Time) -> bool {
     time.seconds > MAX_SIZE || time.nanoseconds >= 1_000_000_000
 }
 
-/// "Enter adds a card of size 0 with no blocks and the lent time."
+/// "Enter adds a card of size 0 with no blocks and the lent time." W-205: "Enter
+/// sets both times to the lent one".
 fn enter(store: &mut Store, object: u64, time: Time) -> Result<u64, Refusal> {
     let mut volume = Volume::decode(store);
     refuse_if(volume.card(object).is_some(), 4)?;
@@ -248,8 +257,8 @@ fn enter(store: &mut Store, object: u64, time: Time) -> Result<u64, Refusal> {
         object,
         size: 0,
         allocated: 0,
-        seconds: time.seconds,
-        nanoseconds: time.nanoseconds,
+        changed: time,
+        created: time,
     });
     volume.cards.sort_by_key(|card| card.object);
     volume.encode(store);
@@ -728,14 +737,15 @@ fn rewrite(
     volume.hint = carried.hint;
     volume.groups = groups;
     volume.extents = extents;
+    // W-205: "write and grow set only the first" time.
     for kept in &mut volume.cards {
         if kept.object == card.object {
             *kept = Card {
                 object: card.object,
                 size: new_size,
                 allocated: carried.allocated,
-                seconds: time.seconds,
-                nanoseconds: time.nanoseconds,
+                changed: time,
+                created: card.created,
             };
         }
     }

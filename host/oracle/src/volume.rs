@@ -38,23 +38,35 @@ pub struct Timestamp {
     pub(crate) nanoseconds: u64,
 }
 
+impl From<Time> for Timestamp {
+    fn from(time: Time) -> Self {
+        Self {
+            seconds: time.seconds,
+            nanoseconds: time.nanoseconds,
+        }
+    }
+}
+
+impl From<Timestamp> for Time {
+    fn from(time: Timestamp) -> Self {
+        Self {
+            seconds: time.seconds,
+            nanoseconds: time.nanoseconds,
+        }
+    }
+}
+
 impl Timestamp {
     pub(crate) fn lend(time: Time) {
         LENT_TIME.set(time);
     }
 
     fn now() -> Result<Self> {
-        let Time {
-            seconds,
-            nanoseconds,
-        } = LENT_TIME.get();
-        if seconds > model::MAX_SIZE || nanoseconds >= 1_000_000_000 {
+        let time = LENT_TIME.get();
+        if time.seconds > model::MAX_SIZE || time.nanoseconds >= 1_000_000_000 {
             return Err(Error::InvalidInput("lent time out of range"));
         }
-        Ok(Self {
-            seconds,
-            nanoseconds,
-        })
+        Ok(time.into())
     }
 }
 

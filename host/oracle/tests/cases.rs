@@ -12,10 +12,8 @@ mod cases {
     use model::{Call, Store, Time, Volume};
     use oracle::{Error, Outcome, compact_group, private};
 
-    const TIME: Time = Time {
-        seconds: 1,
-        nanoseconds: 2,
-    };
+    const TIME: Time = Time::new(1, 2);
+    const ENTERED: Time = Time::new(3, 4);
 
     /// The text that the recorded answers were made with: 1,045 lines (one
     /// less by its line feeds), and its own CRC-32C.
@@ -71,7 +69,10 @@ mod cases {
             uuid: vec![9; 16],
             reserved,
         };
-        let enter = Call::Enter { object, time: TIME };
+        let enter = Call::Enter {
+            object,
+            time: ENTERED,
+        };
         assert_eq!(model::run(&mut store, &fresh).number, 0);
         assert_eq!(model::run(&mut store, &enter).number, 0);
         store
@@ -170,6 +171,22 @@ mod cases {
             write(&mut store, 7, offset, &vec![1; 1_048_577]),
             Outcome::Accepted(1_048_576)
         );
+    }
+
+    /// W-205: "write and grow set only the first" time.
+    #[test]
+    fn the_creation_time_stays() {
+        let mut store = store_with(7, 8, 1);
+        let times = |store: &Store| {
+            let card = Volume::decode(store).cards[0];
+            (card.changed, card.created)
+        };
+        assert_eq!(times(&store), (ENTERED, ENTERED));
+        let mut grown = store.clone();
+        assert_eq!(write(&mut store, 7, 0, &[5; 10]), Outcome::Accepted(10));
+        assert_eq!(times(&store), (TIME, ENTERED));
+        assert_eq!(grow(&mut grown, 7, 10), Outcome::Accepted(0));
+        assert_eq!(times(&grown), (TIME, ENTERED));
     }
 
     #[test]

@@ -10,6 +10,8 @@ use random::Rng;
 /// The most extents of a book.
 const MOST: usize = 1_048_575;
 
+const CARD_BYTES: usize = 48;
+
 fn record(object: u64, logical: u64) -> [u8; 33] {
     let mut record = [0; 33];
     record[..8].copy_from_slice(&object.to_be_bytes());
@@ -158,7 +160,7 @@ fn the_first_at_or_after_a_key() {
         // What follows a card's object is anything.
         let cards: Vec<u8> = objects
             .iter()
-            .flat_map(|object| padded(&object.to_be_bytes(), 32, &mut random))
+            .flat_map(|object| padded(&object.to_be_bytes(), CARD_BYTES, &mut random))
             .collect();
         for _ in 0..60 {
             let key = (random.below(6), random.below(72));

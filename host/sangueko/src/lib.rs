@@ -29,6 +29,18 @@
 //! # Ok::<(), Refusal>(())
 //! ```
 //!
+//! A card holds a file's size, when it was created and when it last changed; no
+//! call gives them, but the bytes may be read. [`CARD_BYTES`] lists the fields.
+//!
+//! Stores whose cards have 32 bytes, as they once had, are not converted, and
+//! nothing in a store tells how wide its cards are. Such a store is refused by
+//! [`Refusal::WrongLength`] where its book of cards is no multiple of
+//! [`CARD_BYTES`] or its head counts more cards than that book then has places,
+//! and else normally by [`Refusal::BrokenRule`]. But one that passes both is
+//! read as cards of [`CARD_BYTES`]: a single card in 96 bytes passes, and has
+//! creation time 0. So such stores should not be lent; their files can be copied
+//! out with the library that they were made with.
+//!
 //! The library keeps no state, allocates nothing and takes less than
 //! [`STACK_BYTES`] of stack.
 
@@ -49,8 +61,11 @@ pub use store::Store;
 pub const BLOCK_BYTES: usize = 4_096;
 /// Bytes of the head.
 pub const HEAD_BYTES: usize = 28;
-/// Bytes of a card, the record of a file.
-pub const CARD_BYTES: usize = 32;
+/// Bytes of a card, the record of a file. Its fields are packed, each most
+/// significant bit first: object 64 bits, size 63, blocks 35, the time of the
+/// last change as seconds 63 and nanoseconds 30, the time of the creation
+/// likewise, and 36 bits that are zero.
+pub const CARD_BYTES: usize = 48;
 /// Bytes of an extent.
 pub const EXTENT_BYTES: usize = 33;
 /// Bytes of a group of checksums.

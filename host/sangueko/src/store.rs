@@ -57,8 +57,8 @@ impl Store<'_> {
         ffi::fresh(self, uuid, reserved)
     }
 
-    /// Adds the file `object`, of size 0 and without blocks, last changed at
-    /// the time given. Answers 0.
+    /// Adds the file `object`, of size 0 and without blocks, created and last
+    /// changed at the time given. Answers 0.
     ///
     /// # Errors
     ///
@@ -85,8 +85,9 @@ impl Store<'_> {
     /// [`MOST_TRANSFER`](crate::MOST_TRANSFER), into the file from `offset` on,
     /// over what was there; past its end the file grows, and what lies between
     /// reads as zeros. Answers how many bytes were taken: all, or `MOST_TRANSFER`
-    /// of more, and the caller writes the rest. The file's time becomes the one
-    /// given. Empty `bytes` answer 0 and change nothing.
+    /// of more, and the caller writes the rest. The time of the file's last
+    /// change becomes the one given; that of its creation stays. Empty `bytes`
+    /// answer 0 and change nothing.
     ///
     /// New bytes go to free blocks. Those they take the place of stay used, as
     /// retired blocks, until [`settle`](Store::settle) lets them go.
@@ -136,8 +137,8 @@ impl Store<'_> {
 
     /// Makes the file `size` bytes long; the new bytes read as zeros, and take
     /// blocks only as far as the unit that the file ended in. Answers 0. The
-    /// file's time becomes the one given, but its present size changes nothing,
-    /// and files do not shrink.
+    /// time of the file's last change becomes the one given; that of its creation
+    /// stays. Its present size changes nothing, and files do not shrink.
     ///
     /// # Errors
     ///
@@ -273,7 +274,8 @@ impl Store<'_> {
 
     /// Makes up to [`MOST_RANGES`](crate::MOST_RANGES) writes in one call, into
     /// one file or several, each as [`write`](Store::write) would and all with
-    /// the one time. `bytes` is cut into pieces that lie one after another in the
+    /// the one time, which is that of the files' last change; the times of their
+    /// creation stay. `bytes` is cut into pieces that lie one after another in the
     /// order of `ranges`, each as long as its range, and has no byte more. The
     /// writes are made in that order. The store is tested once for all of them,
     /// but for one that something else has changed so that a block is at two

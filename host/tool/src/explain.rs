@@ -11,12 +11,14 @@ fn advice(refusal: Refusal) -> (&'static str, &'static str) {
             "every command",
             "`sangueko check FOLDER` names the file and the length that it should have. The lengths are chosen once, by `new`: \
              put the file back from a copy. If `new` was refused: it takes 1 to 65,536 blocks, at most as many \
-             reserved ones, and at most 1,048,575 places in a book.",
+             reserved ones, and at most 1,048,575 places in a book. A card has 48 bytes. Older stores, whose cards have 32, are not \
+             converted: copy their files out with the tool that they were made with.",
         ),
         Refusal::BrokenRule => (
             "every command but new",
             "`sangueko check FOLDER` names the rule, the record and its bytes. No list of calls leads there: another program or \
-             the disk has changed the files. Put the folder back from a copy.",
+             the disk has changed the files. Put the folder back from a copy. An older store, whose cards have 32 bytes and not \
+             48, is no damaged one, but it is not converted: copy its files out with the tool that it was made with.",
         ),
         Refusal::NoCard => (
             "write, batch, grow, read, flags",

@@ -56,7 +56,7 @@ Makes a store in FOLDER, which must not be there yet, or be empty. The sizes can
         options: &["--time"],
         switches: &[NO_WAIT],
         help: "\
-Adds the file of number OBJECT, with no bytes.
+Adds the file of number OBJECT, with no bytes. It is created, and has last changed, at the time given.
 
   --time S       seconds since 1970, with up to nine digits after a point (now)
   --no-wait      do not wait for another process, end with 75
@@ -69,8 +69,9 @@ Adds the file of number OBJECT, with no bytes.
         switches: &[NO_WAIT],
         help: "\
 Writes FILE, or standard input where it is not named or `-`, into the file OBJECT, over what is there and past its
-end. A call of the library takes at most 1,048,576 bytes: more bytes are several calls, each stored by itself. Where
-one of them is refused, those before it stay, and the message says how many bytes they were.
+end. The time is that of its last change; when it was created stays as it is. A call of the library takes at most
+1,048,576 bytes: more bytes are several calls, each stored by itself. Where one of them is refused, those before it stay,
+and the message says how many bytes they were.
 
   --at OFFSET    the first byte to write (0)
   --time S       seconds since 1970, with up to nine digits after a point (now)
@@ -84,9 +85,9 @@ one of them is refused, those before it stay, and the message says how many byte
         switches: &[NO_WAIT],
         help: "\
 Makes the writes of LIST, or of standard input where it is not named or `-`, in the order in which they are listed and
-all with one time. A line OBJECT OFFSET BYTES is a write; BYTES are two hexadecimal digits for each byte, or @FILE for
-all that a file holds, 1,048,576 bytes at most. Empty lines and lines that begin with # are passed over. A line that is
-wrong ends it before anything is written.
+all with one time, that of the files' last change. A line OBJECT OFFSET BYTES is a write; BYTES are two hexadecimal
+digits for each byte, or @FILE for all that a file holds, 1,048,576 bytes at most. Empty lines and lines that begin with
+# are passed over. A line that is wrong ends it before anything is written.
 
   --time S       seconds since 1970, with up to nine digits after a point (now)
   --no-wait      do not wait for another process, end with 75
@@ -122,7 +123,8 @@ the bytes that there are, and a line on standard error says so.
         options: &["--time"],
         switches: &[NO_WAIT],
         help: "\
-Makes the file OBJECT SIZE bytes long; the new bytes are zero and take hardly any room. Files do not get shorter.
+Makes the file OBJECT SIZE bytes long; the new bytes are zero and take hardly any room. Files do not get shorter. The
+time is that of its last change; when it was created stays as it is.
 
   --time S       seconds since 1970, with up to nine digits after a point (now)
   --no-wait      do not wait for another process, end with 75
@@ -158,8 +160,8 @@ Tells how full the store is: of the blocks that are not reserved the used ones, 
         options: &["--svg", "--columns"],
         switches: &[JSON, NO_WAIT, "--all"],
         help: "\
-Tells what the store holds: head, fullness, files, a picture of the blocks, extents and groups. In colour on a
-terminal (unless NO_COLOR is set), else in letters.
+Tells what the store holds: head, fullness, files and when they were created and last changed, a picture of the blocks,
+extents and groups. In colour on a terminal (unless NO_COLOR is set), else in letters.
 
   --svg FILE     the picture as an SVG file too, with every block
   --columns N    width of bar and picture, 8 to 512 (64)

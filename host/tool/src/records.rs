@@ -1,6 +1,10 @@
 //! What the bytes of head and books say. Read only: the library writes them.
 
+use std::ops::Range;
+
 use sangueko::{CARD_BYTES, EXTENT_BYTES, GROUP_BYTES, StoreBuf};
+
+use crate::time::Time;
 
 pub const UNIT_BYTES: u64 = 65_536;
 pub const UNIT_BLOCKS: u64 = 16;
@@ -48,27 +52,82 @@ impl Head {
     }
 }
 
+/// A field of a card: its first bit, counted from the most significant one of the
+/// record, and how many it has.
+#[derive(Clone, Copy, Debug)]
+pub struct Field {
+    first: usize,
+    width: usize,
+}
+
+impl Field {
+    const fn end(self) -> usize {
+        self.first + self.width
+    }
+
+    /// The one behind it.
+    const fn then(self, width: usize) -> Self {
+        Self {
+            first: self.end(),
+            width,
+        }
+    }
+
+    fn of(self, record: &[u8]) -> u64 {
+        bits(record, self.first, self.width)
+    }
+
+    /// The bytes of the record that it lies in.
+    pub const fn bytes(self) -> Range<usize> {
+        self.first / 8..self.end().div_ceil(8)
+    }
+}
+
 #[derive(Clone, Copy, Debug)]
 pub struct Card {
     pub object: u64,
     pub size: u64,
     pub allocated: u64,
-    pub seconds: u64,
-    pub nanoseconds: u64,
+    pub changed: Time,
+    pub created: Time,
     /// Zero in every store past refusal 2.
-    pub spare: bool,
+    pub spare: u64,
 }
 
 impl Card {
-    fn decode(bytes: &[u8]) -> Self {
+    const OBJECT: Field = Field {
+        first: 0,
+        width: 64,
+    };
+    const SIZE: Field = Self::OBJECT.then(63);
+    const ALLOCATED: Field = Self::SIZE.then(35);
+    const SECONDS: Field = Self::ALLOCATED.then(63);
+    pub const NANOSECONDS: Field = Self::SECONDS.then(30);
+    const CREATED_SECONDS: Field = Self::NANOSECONDS.then(63);
+    pub const CREATED_NANOSECONDS: Field = Self::CREATED_SECONDS.then(30);
+    const SPARE: Field = Self::CREATED_NANOSECONDS.then(36);
+
+    pub fn decode(bytes: &[u8]) -> Self {
         Self {
-            object: bits(bytes, 0, 64),
-            size: bits(bytes, 64, 63),
-            allocated: bits(bytes, 127, 35),
-            seconds: bits(bytes, 162, 63),
-            nanoseconds: bits(bytes, 225, 30),
-            spare: bits(bytes, 255, 1) == 1,
+            object: Self::OBJECT.of(bytes),
+            size: Self::SIZE.of(bytes),
+            allocated: Self::ALLOCATED.of(bytes),
+            changed: Time {
+                seconds: Self::SECONDS.of(bytes),
+                nanoseconds: Self::NANOSECONDS.of(bytes),
+            },
+            created: Time {
+                seconds: Self::CREATED_SECONDS.of(bytes),
+                nanoseconds: Self::CREATED_NANOSECONDS.of(bytes),
+            },
+            spare: Self::SPARE.of(bytes),
         }
+    }
+
+    /// The first spare bit that is set, counted in the record.
+    pub fn spare_bit(&self) -> Option<usize> {
+        let from_end = self.spare.checked_ilog2()? as usize;
+        Some(Self::SPARE.end() - 1 - from_end)
     }
 
     pub fn blocks(&self) -> u64 {
@@ -80,11 +139,14 @@ impl Card {
     }
 
     /// The bytes of the file that lie in a unit.
-    pub fn unit_bytes(&self, unit: u64) -> std::ops::Range<u64> {
+    pub fn unit_bytes(&self, unit: u64) -> Range<u64> {
         let from = unit.saturating_mul(UNIT_BYTES).min(self.size);
         from..from.saturating_add(UNIT_BYTES).min(self.size)
     }
 }
+
+/// The fields take up a card.
+const _: () = assert!(Card::SPARE.end() == 8 * CARD_BYTES);
 
 #[derive(Clone, Copy, Debug)]
 pub struct Extent {
@@ -229,5 +291,59 @@ impl<'a> Records<'a> {
         self.store
             .image
             .get(from..from.checked_add(BLOCK as usize)?)
+    }
+}
+
+#[cfg(test)]
+mod tests {
+    use super::*;
+
+    /// Every field ends with a bit that is set, and begins with one but for the
+    /// first and the spare one.
+    #[test]
+    fn a_card_is_read() {
+        let words: [u64; 6] = [
+            0x0000_0000_0000_0007,
+            0x8000_0000_0003_0d43,
+            0x0000_0001_6000_0000,
+            0x32a9_f880_f735_93ff,
+            0x0000_0000_17d7_8407,
+            0xade6_8b10_0000_0001,
+        ];
+        let bytes = words.map(u64::to_be_bytes);
+        let card = Card::decode(bytes.as_flattened());
+        assert_eq!(card.object, 7);
+        assert_eq!(card.size, (1 << 62) + 100_001);
+        assert_eq!(card.allocated, (1 << 34) + 5);
+        let changed = Time {
+            seconds: (1 << 62) + 1_700_000_001,
+            nanoseconds: 999_999_999,
+        };
+        assert_eq!(card.changed, changed);
+        let created = Time {
+            seconds: (1 << 62) + 100_000_001,
+            nanoseconds: 987_654_321,
+        };
+        assert_eq!(card.created, created);
+        assert_eq!((card.spare, card.spare_bit()), (1, Some(383)));
+        assert_eq!(Card::NANOSECONDS.bytes(), 28..32);
+        assert_eq!(Card::CREATED_NANOSECONDS.bytes(), 39..44);
+        assert_eq!(Card::SPARE.bytes(), 43..48);
+    }
+
+    #[test]
+    fn the_first_spare_bit_is_found() {
+        let spare_bit = |bits: &[usize]| {
+            let mut bytes = [0; CARD_BYTES];
+            for bit in bits {
+                bytes[bit / 8] |= 0x80 >> (bit % 8);
+            }
+            Card::decode(&bytes).spare_bit()
+        };
+        assert_eq!(spare_bit(&[255, 318, 347]), None);
+        for bit in 348..384 {
+            assert_eq!(spare_bit(&[bit]), Some(bit));
+            assert_eq!(spare_bit(&[bit, 383]), Some(bit));
+        }
     }
 }

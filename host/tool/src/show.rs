@@ -114,12 +114,13 @@ fn files(records: &Records<'_>, view: &View, out: &mut impl Write) -> io::Result
         let letter = painted(crate::picture::Cell { kind, whole: true }, view.colour);
         writeln!(
             out,
-            "  {letter}  file {}: {}, {} in {}, changed {}",
+            "  {letter}  file {}: {}, {} in {}, created {}, changed {}",
             card.object,
             sized(card.size),
             counted(card.allocated, "block"),
             counted(records.extents_of(card.object).len(), "piece"),
-            date(card.seconds, card.nanoseconds)
+            date(card.created),
+            date(card.changed)
         )?;
     }
     rest(records.cards.len(), shown, out)
@@ -200,8 +201,10 @@ fn json(records: &Records<'_>, per_mille: u64) -> Json {
             ("object", card.object.into()),
             ("size", card.size.into()),
             ("allocated", card.allocated.into()),
-            ("seconds", card.seconds.into()),
-            ("nanoseconds", card.nanoseconds.into()),
+            ("seconds", card.changed.seconds.into()),
+            ("nanoseconds", card.changed.nanoseconds.into()),
+            ("created_seconds", card.created.seconds.into()),
+            ("created_nanoseconds", card.created.nanoseconds.into()),
             ("pieces", number(records.extents_of(card.object).len())),
         ])
     });

@@ -1,7 +1,11 @@
-//! The time that a call is lent.
+//! A time as a call is lent it and as a card has it.
 
 use std::time::{SystemTime, UNIX_EPOCH};
 
+/// Nanoseconds of a second, which those of a time are below.
+pub const SECOND: u64 = 1_000_000_000;
+
+/// Since 1970.
 #[derive(Clone, Copy, Debug, PartialEq, Eq)]
 pub struct Time {
     pub seconds: u64,

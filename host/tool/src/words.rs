@@ -2,6 +2,8 @@
 
 use std::fmt::Display;
 
+use crate::time::Time;
+
 /// Digits in threes: 1,048,576.
 pub fn grouped(number: impl Display) -> String {
     let digits = number.to_string();
@@ -42,8 +44,12 @@ pub fn hex(bytes: &[u8]) -> String {
     bytes.iter().map(|byte| format!("{byte:02x}")).collect()
 }
 
-/// Seconds since 1970 as a date and a time of day, UTC.
-pub fn date(seconds: u64, nanoseconds: u64) -> String {
+/// A date and a time of day, UTC.
+pub fn date(time: Time) -> String {
+    let Time {
+        seconds,
+        nanoseconds,
+    } = time;
     let (days, rest) = (seconds / 86_400, seconds % 86_400);
     // years of 1 March to the end of February: the leap day is their last
     let shifted = days + 719_468;
@@ -77,6 +83,12 @@ mod tests {
 
     #[test]
     fn dates() {
+        let date = |seconds, nanoseconds| {
+            date(Time {
+                seconds,
+                nanoseconds,
+            })
+        };
         assert_eq!(date(0, 0), "1970-01-01 00:00:00.000000000 UTC");
         assert_eq!(date(951_782_400, 5), "2000-02-29 00:00:00.000000005 UTC");
         assert_eq!(date(1_700_000_000, 0), "2023-11-14 22:13:20.000000000 UTC");

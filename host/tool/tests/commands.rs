@@ -246,6 +246,37 @@ fn show_draws_the_layout_store() {
     assert_eq!(svg.matches('<').count(), svg.matches('>').count());
 }
 
+/// W-205: when a file was created, which stays, and when it last changed.
+#[test]
+fn show_tells_both_times() {
+    let temporary = Temporary::new();
+    let store = temporary.path("store");
+    let folder = store.to_str().unwrap();
+    done(&["new", folder, "--blocks", "8"]);
+    done(&["enter", folder, "7", "--time", "1700000000.25"]);
+    let expect = |changed: &str, seconds: u64, nanoseconds: u64| {
+        let times = format!("created 2023-11-14 22:13:20.250000000 UTC, changed {changed} UTC\n");
+        let shown = done(&["show", folder]);
+        assert!(shown.contains(&times), "{shown}");
+        let fields = format!(
+            "\"seconds\":{seconds},\"nanoseconds\":{nanoseconds},\
+             \"created_seconds\":1700000000,\"created_nanoseconds\":250000000,"
+        );
+        let json = done(&["show", folder, "--json"]);
+        assert!(json.contains(&fields), "{json}");
+    };
+    expect("2023-11-14 22:13:20.250000000", 1_700_000_000, 250_000_000);
+    let written = fed(&["write", folder, "7", "--time", "1700000001"], b"bytes");
+    assert_eq!(code(&written), 0);
+    expect("2023-11-14 22:13:21.000000000", 1_700_000_001, 0);
+    done(&["grow", folder, "7", "100", "--time", "1700000002.5"]);
+    expect("2023-11-14 22:13:22.500000000", 1_700_000_002, 500_000_000);
+    let batched = fed(&["batch", folder, "--time", "0.000000001"], b"7 0 00ff\n");
+    assert_eq!(code(&batched), 0);
+    done(&["settle", folder]);
+    expect("1970-01-01 00:00:00.000000001", 0, 1);
+}
+
 /// W-202: what `fill` divides by, down to no block at all.
 #[test]
 fn fill_says_what_it_divides_by() {

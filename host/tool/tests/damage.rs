@@ -13,7 +13,7 @@ use tool::diagnose::diagnose;
 fn store() -> StoreBuf {
     let mut buffers = fresh(70, 2, PLACES);
     let mut store = buffers.lend();
-    store.enter(7, 1, 5).unwrap();
+    store.enter(7, 1, 500_000_000).unwrap();
     store.enter(9, 2, 6).unwrap();
     store.write(7, 0, &bytes(20_000, 1), 3, 0).unwrap();
     store.write(9, 0, &bytes(70_000, 2), 3, 0).unwrap();
@@ -96,7 +96,7 @@ fn one_byte_is_found_and_named() {
             (Buffer::Cards, 7, 10),
             2,
             "order",
-            "file cards, record 1, bytes 32 to 39",
+            "file cards, record 1, bytes 48 to 55",
             "the card of file 9 does not come after the card of file 10",
         ),
         case(
@@ -117,15 +117,29 @@ fn one_byte_is_found_and_named() {
             (Buffer::Cards, 4 * CARD_BYTES - 1, 1),
             2,
             "zeros after the last record",
-            "file cards, record 3, byte 127",
-            "byte 127 behind them is 1",
+            "file cards, record 3, byte 191",
+            "byte 191 behind them is 1",
         ),
         case(
             (Buffer::Cards, CARD_BYTES - 1, 1),
             2,
             "fixed or spare bytes",
-            "file cards, record 0, byte 31",
-            "the spare bit of the card of file 7",
+            "file cards, record 0, byte 47",
+            "bit 383 of the card of file 7 is set",
+        ),
+        case(
+            (Buffer::Cards, CARD_BYTES + 44, 0x12),
+            2,
+            "fixed or spare bytes",
+            "file cards, record 1, byte 92",
+            "bit 355 of the card of file 9 is set",
+        ),
+        case(
+            (Buffer::Cards, 43, 8),
+            2,
+            "fixed or spare bytes",
+            "file cards, record 0, byte 43",
+            "bit 348 of the card of file 7 is set",
         ),
         case(
             (Buffer::Extents, 5 * E + 8, 5),
@@ -153,7 +167,15 @@ fn one_byte_is_found_and_named() {
             2,
             "nanoseconds 1,000,000,000 or more",
             "file cards, record 0, bytes 28 to 31",
-            "nanoseconds",
+            "nanoseconds in the time of its last change",
+        ),
+        // a half of a second, and both upper bits of the nanoseconds set
+        case(
+            (Buffer::Cards, 39, 7),
+            2,
+            "nanoseconds 1,000,000,000 or more",
+            "file cards, record 0, bytes 39 to 43",
+            "the card of file 7 says 1,036,870,912 nanoseconds in the time of its creation",
         ),
         case(
             (Buffer::Extents, 25, 0),
@@ -255,6 +277,7 @@ fn one_byte_is_found_and_named() {
         assert!(message.contains(case.rule), "{}: {message}", case.rule);
         assert!(message.contains(case.place), "{}: {message}", case.rule);
         assert!(message.contains(case.says), "{}: {message}", case.rule);
+        assert!(!message.contains("  note "), "{}: {message}", case.rule);
         assert!(!out(&output).contains("disagree"), "{}", out(&output));
         assert_eq!(store_in(&folder), broken);
         let json = out(&run(&["check", folder.to_str().unwrap(), "--json"]));
@@ -307,7 +330,8 @@ fn the_diagnosis_refuses_what_the_library_refuses() {
                 continue;
             }
             // mostly where the records are
-            let near = [bytes.len(), bytes.len().min(40), bytes.len().min(180)];
+            let near = [CARD_BYTES, 180].map(|near| bytes.len().min(near));
+            let near = [bytes.len(), near[0], near[1]];
             let at = random.index(random.clone().pick(&near));
             bytes[at] = if random.percent(50) {
                 bytes[at] ^ (1 << random.below(8))

@@ -106,16 +106,13 @@ pub(super) fn catalog(store: &Store, head: &Head) -> Edge {
     let cards = store.cards.chunks(CARD_BYTES).take(head.cards);
     let cards = cards.map(|place| -> Record {
         let card = Card::decode(place);
-        let time = Timestamp {
-            seconds: card.seconds,
-            nanoseconds: card.nanoseconds,
-        };
         let inode = Inode {
             kind: ObjectKind::File,
             size: card.size,
             allocated_blocks: card.allocated,
-            modification: time,
-            metadata_change: time,
+            creation: card.created.into(),
+            modification: card.changed.into(),
+            metadata_change: card.changed.into(),
         };
         (inode_key(card.object), inode.encode())
     });
@@ -161,8 +158,8 @@ impl Books {
                         object: u64::from_be_bytes(key[..8].try_into().expect("8 bytes")),
                         size: inode.size,
                         allocated: inode.allocated_blocks,
-                        seconds: inode.modification.seconds,
-                        nanoseconds: inode.modification.nanoseconds,
+                        changed: inode.modification.into(),
+                        created: inode.creation.into(),
                     });
                 }
                 3 => books.extents.push([key, value].concat()),

@@ -10,13 +10,14 @@ include!(concat!(env!("OUT_DIR"), "/namespace.rs"));
 
 /// Stands for the inode: the card's fields behind its object. The record's
 /// value holds each in 8 bytes, as wide as the Rust computes them; the driver
-/// packs them into the card's bits. Left out: kinds, flags, parents, children,
-/// the creation time and symlink targets. `metadata_change` is set together
-/// with `modification` in every call of the oracle and is not kept.
+/// packs them into the card's bits. Left out: kinds, flags, parents, children
+/// and symlink targets. `metadata_change` is set together with `modification` in
+/// every call of the oracle and is not kept.
 pub(crate) struct Inode {
     pub(crate) kind: ObjectKind,
     pub(crate) size: u64,
     pub(crate) allocated_blocks: u64,
+    pub(crate) creation: Timestamp,
     pub(crate) modification: Timestamp,
     pub(crate) metadata_change: Timestamp,
 }
@@ -27,16 +28,20 @@ impl Inode {
             let bytes = value.get(n * 8..n * 8 + 8);
             u64_le(bytes.ok_or(Error::Corrupt("invalid inode length"))?)
         };
-        let time = Timestamp {
-            seconds: field(2)?,
-            nanoseconds: field(3)?,
+        let time = |n: usize| -> Result<Timestamp> {
+            Ok(Timestamp {
+                seconds: field(n)?,
+                nanoseconds: field(n + 1)?,
+            })
         };
+        let modification = time(2)?;
         Ok(Self {
             kind: ObjectKind::File,
             size: field(0)?,
             allocated_blocks: field(1)?,
-            modification: time,
-            metadata_change: time,
+            creation: time(4)?,
+            modification,
+            metadata_change: modification,
         })
     }
 
@@ -46,6 +51,8 @@ impl Inode {
             self.allocated_blocks,
             self.modification.seconds,
             self.modification.nanoseconds,
+            self.creation.seconds,
+            self.creation.nanoseconds,
         ]
         .iter()
         .flat_map(|field| field.to_le_bytes())

@@ -12,7 +12,7 @@ use std::time::Duration;
 
 use compare::alone::alone;
 use measure::{pair, times};
-use model::{Card, Extent, Group, Volume};
+use model::{Card, Extent, Group, Time, Volume};
 use sangueko::{Refusal, Store};
 
 /// Our time over theirs may be this at most.
@@ -26,6 +26,11 @@ const BLOCKS: u64 = 65_536;
 const CARDS: u64 = 10;
 const EXTENTS: u64 = 10_000;
 const GROUPS: u64 = 40;
+
+const TIME: Time = Time {
+    seconds: 1_700_000_000,
+    nanoseconds: 999_999_999,
+};
 
 fn main() {
     // Both make the same tests: on stores that each break one word of them.
@@ -105,8 +110,8 @@ fn sample() -> model::Store {
             object,
             size: logical * model::BLOCK_BYTES as u64,
             allocated: 0,
-            seconds: 1_700_000_000,
-            nanoseconds: 999_999_999,
+            changed: TIME,
+            created: TIME,
         });
     }
     let groups = (0..GROUPS)

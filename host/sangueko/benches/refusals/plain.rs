@@ -94,13 +94,23 @@ fn books(store: &Store<'_>, head: &Head) -> bool {
     is_zero(rest) && groups_right(groups)
 }
 
+/// A second's nanoseconds, and the bits that a card has for them.
+const SECOND: u64 = 1_000_000_000;
+const NANOSECONDS: u64 = (1 << 30) - 1;
+
+/// The last bits of a card, which are zero.
+const SPARE_BITS: u32 = 36;
+
 fn cards_right(cards: &[u8]) -> bool {
     let mut before = None;
     for card in cards.chunks_exact(CARD_BYTES) {
         let object = be(&card[..8]);
-        let last = be(&card[24..]);
-        let nanoseconds = last >> 1 & 0x3fff_ffff;
-        if before >= Some(object) || last & 1 != 0 || nanoseconds >= 1_000_000_000 {
+        // Those of the last change end with bit 254, those of the creation with 347.
+        let changed = be(&card[24..32]) >> 1 & NANOSECONDS;
+        let last = be(&card[40..]);
+        let created = (be(&card[32..40]) << 28 | last >> SPARE_BITS) & NANOSECONDS;
+        let spare = last << (64 - SPARE_BITS);
+        if before >= Some(object) || spare != 0 || changed >= SECOND || created >= SECOND {
             return false;
         }
         before = Some(object);

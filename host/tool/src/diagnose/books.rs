@@ -7,7 +7,8 @@ use sangueko::{CARD_BYTES, EXTENT_BYTES, GROUP_BYTES};
 
 use super::Finding;
 use crate::buffer::Buffer;
-use crate::records::{Extent, Records, map_bit};
+use crate::records::{Card, Extent, Records, map_bit};
+use crate::time::SECOND;
 use crate::words::{counted, grouped};
 
 const KEY_BYTES: usize = 17;
@@ -57,6 +58,7 @@ impl Book {
             record: Some(at as u64),
             bytes: (start + bytes.start) as u64..(start + bytes.end) as u64,
             says,
+            note: None,
         }
     }
 }
@@ -126,20 +128,21 @@ pub fn zeros_after(records: &Records<'_>) -> Option<Finding> {
 }
 
 pub fn fixed_and_spare(records: &Records<'_>) -> Option<Finding> {
-    spare_bit(records)
+    spare_bits(records)
         .or_else(|| extent_bytes(records))
         .or_else(|| group_kind(records))
 }
 
 const FIXED: &str = "fixed or spare bytes";
 
-fn spare_bit(records: &Records<'_>) -> Option<Finding> {
-    let at = records.cards.iter().position(|card| card.spare)?;
+fn spare_bits(records: &Records<'_>) -> Option<Finding> {
+    let mut cards = records.cards.iter().enumerate();
+    let (at, bit) = cards.find_map(|(at, card)| Some((at, card.spare_bit()?)))?;
     let says = format!(
-        "the spare bit of {}, the last bit, is set",
+        "bit {bit} of {} is set, and its last 36, which are spare, have to be zero",
         named(records, &CARDS, at)
     );
-    Some(CARDS.finding(at, 31..32, FIXED, says))
+    Some(CARDS.finding(at, bit / 8..bit / 8 + 1, FIXED, says))
 }
 
 fn extent_bytes(records: &Records<'_>) -> Option<Finding> {
@@ -176,13 +179,20 @@ fn group_kind(records: &Records<'_>) -> Option<Finding> {
 
 pub fn nanoseconds(records: &Records<'_>) -> Option<Finding> {
     let mut cards = records.cards.iter().enumerate();
-    let (at, card) = cards.find(|(_, card)| card.nanoseconds >= 1_000_000_000)?;
-    let says = format!(
-        "the card of file {} says {} nanoseconds",
-        card.object,
-        grouped(card.nanoseconds)
-    );
-    Some(CARDS.finding(at, 28..32, "nanoseconds 1,000,000,000 or more", says))
+    cards.find_map(|(at, card)| {
+        let times = [
+            (card.changed, Card::NANOSECONDS, "last change"),
+            (card.created, Card::CREATED_NANOSECONDS, "creation"),
+        ];
+        let mut times = times.into_iter();
+        let (time, field, whose) = times.find(|(time, ..)| time.nanoseconds >= SECOND)?;
+        let says = format!(
+            "the card of file {} says {} nanoseconds in the time of its {whose}",
+            card.object,
+            grouped(time.nanoseconds)
+        );
+        Some(CARDS.finding(at, field.bytes(), "nanoseconds 1,000,000,000 or more", says))
+    })
 }
 
 /// The first extent of which a test says something.

@@ -33,6 +33,7 @@ fn length(buffer: Buffer, lengths: &Lengths, rule: &'static str, says: String) -
         record: None,
         bytes: length..length,
         says,
+        note: None,
     })
 }
 
@@ -122,6 +123,7 @@ fn field(bytes: std::ops::Range<u64>, rule: &'static str, says: String) -> Findi
         record: None,
         bytes,
         says,
+        note: None,
     }
 }
 

@@ -15,6 +15,7 @@ fn bit(map: Buffer, block: u64, rule: &'static str, says: String) -> Option<Find
         record: None,
         bytes: block / 8..block / 8 + 1,
         says,
+        note: None,
     })
 }
 
@@ -53,6 +54,7 @@ pub fn mapped_block(records: &Records<'_>) -> Option<Finding> {
                     "below {}, where reserved blocks end",
                     grouped(reserved)
                 )),
+                note: None,
             })
         })
     })

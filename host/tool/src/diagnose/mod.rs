@@ -5,6 +5,7 @@
 mod books;
 mod lengths;
 mod maps;
+mod narrow;
 
 use std::fmt;
 use std::ops::Range;
@@ -29,6 +30,8 @@ pub struct Finding {
     /// Of the buffer's file.
     pub bytes: Range<u64>,
     pub says: String,
+    /// What it may come from.
+    pub note: Option<&'static str>,
 }
 
 /// A rule: what breaks it first, if anything does.
@@ -55,7 +58,12 @@ const RULES: [Rule; 14] = [
 /// The first broken rule. `lengths` are those of the files.
 pub fn diagnose(store: &StoreBuf, lengths: &Lengths) -> Option<Finding> {
     let records = Records::of(store);
-    lengths::broken(&records, lengths).or_else(|| RULES.iter().find_map(|rule| rule(&records)))
+    let broken = lengths::broken(&records, lengths);
+    let finding = broken.or_else(|| RULES.iter().find_map(|rule| rule(&records)))?;
+    Some(Finding {
+        note: narrow::note(&records),
+        ..finding
+    })
 }
 
 impl fmt::Display for Finding {
@@ -75,7 +83,11 @@ impl fmt::Display for Finding {
                 grouped(self.bytes.end - 1)
             )?,
         }
-        write!(f, "  what    {}", self.says)
+        write!(f, "  what    {}", self.says)?;
+        match self.note {
+            Some(note) => write!(f, "\n  note    {note}"),
+            None => Ok(()),
+        }
     }
 }
 
@@ -89,6 +101,7 @@ impl Finding {
             ("from", self.bytes.start.into()),
             ("to", self.bytes.end.into()),
             ("says", self.says.as_str().into()),
+            ("note", self.note.into()),
         ])
     }
 }
