@@ -1,33 +1,31 @@
--- Laws of a batch of writes: the tests of its list, one write of it, and its writes one after another.
+-- Laws of a batch of writes: one write of it, its writes one after another, and what its tests tell.
 -- Assumes nothing.
 use mathlib.Core.Path.{_≡_, refl, sym, ap, ap₂, subst, _∙_}
-use mathlib.Core.Logic.{inl, inr}
-use mathlib.Core.Bool.{Bool, true, false, not, _||_, false≢true}
+use mathlib.Core.Bool.{Bool, true, false}
 use mathlib.Core.List.{List, [], _∷_}
-use Prim.Native.Nat.{ℕ, suc, _+_, _-_, _*_, _/_, _%_, _≤_, _<_}
+use Prim.Native.Nat.{ℕ, suc, _+_, _-_, _/_, _≤_, _<_}
 use native.Mathlib.Omega.{arith}
-use lib.Dec.{eqb, leb, ltb}
+use lib.Dec.{leb}
 use lib.ListN.{length, take, drop}
 use lib.Seq.{drop-drop}
-use borrow.Author.Tests.{eqb-true, ltb-false, leb-true, le-leb, not-false}
+use borrow.Author.Tests.{leb-true, le-leb}
 use Rattle.rules.specs.Sizes.{mostRuns, mostBlocks}
-use Rattle.rules.specs.Lists.{if_then_else_, all}
+use Rattle.rules.specs.Lists.{if_then_else_}
 use Rattle.rules.specs.Bytes.{Bytes}
 use Rattle.rules.specs.Time.{Time}
-use Rattle.rules.specs.Head.{Head, decodeHead}
-use Rattle.rules.specs.Extent.{Extent, extentBytes, decodeExtent}
-use Rattle.rules.specs.Book.{bookPlaces, decodeBook, decodeBooks}
+use Rattle.rules.specs.Head.{decodeHead}
+use Rattle.rules.specs.Book.{bookPlaces, decodeBooks}
 use Rattle.rules.specs.Store.{Store, StoreBytes, decode, decodeWith}
 use Rattle.rules.specs.Refusal.{Result, numberOf, result}
 use Rattle.rules.specs.Refusal.Outcome.{accept}
 use Rattle.rules.specs.Answers.{outcomeNumber}
 use Rattle.rules.specs.Write.{writeOutcome}
-use Rattle.rules.specs.Triples.{Triple, tripleBytes, mostTriples, decodeTriple, decodeTriples, listWrong, lengthsOf}
-use Rattle.rules.specs.Batch.{lengthOver, batchWrong, batchGives, batchFrom, unless}
+use Rattle.rules.specs.Triples.{Triple, tripleBytes, decodeTriple, decodeTriples, lengthsOf}
+use Rattle.rules.specs.Batch.{batchWrong, batchGives, batchFrom, unless}
 use Rattle.rules.specs.Integrity.{onDevice, mappedBlocks}
 use Rattle.rules.specs.Call.{Call, InRange, WordTime, call}
 use Rattle.rules.specs.Call.Call.{write}
-use Rattle.rules.proofs.ListLaws.{or-none-left, or-none-right, all-weaken, each-at}
+use Rattle.rules.proofs.ListLaws.{all-weaken, each-at}
 use Rattle.rules.proofs.ByteLaws.{bytes-take, bytes-drop}
 use Rattle.rules.proofs.PassLaws.{Passes, passes-head, passes-room, lawful-decode}
 use Rattle.rules.proofs.CountLaws.{Once}
@@ -35,50 +33,15 @@ use Rattle.rules.proofs.OutcomeLaws.{goes-on}
 use Rattle.rules.proofs.BytesKept.{bytes-kept}
 use Rattle.rules.proofs.BatchLaws.{after-accepted, after-refused, nextWrite, TripleInRange, triples-in-range}
 use Rattle.history.proofs.UnsharedLaws.{Unshared, Safe, few-blocks, write-safe}
-use Rattle.format.specs.declared.head.Head as headStruct
-use Rattle.format.specs.Records.{headOf}
 use Rattle.book.proofs.SearchLaws.{record-at}
 use Rattle.intake.specs.Join.{storeNumber}
 use Rattle.intake.proofs.JoinLaws.{stopped}
-use Rattle.sharing.specs.Sharing.{TellsShared}
 use Rattle.triples.specs.declared.Triple as struct
 use Rattle.triples.specs.Triple.{tripleOf, tripleAt, triplesFrom}
 use Rattle.triples.proofs.TripleLaws.{length-triples, from-start, from-end, read-here, read-lengths}
 use Rattle.write.specs.Call.{StoreReady, answered}
-use Rattle.batch.specs.Batch.{Wrote, batchTried, extentsCounted, ExtentsPlaced, TellsAgain}
-
--- ---- the list
-
-module _ (list bytes : List ℕ) where
-  -- not whole triples, or too many
-  pub wrong-list : (m : Bool) → m ≡ listWrong list → m ≡ true → true ≡ batchWrong list bytes
-  unfolding batchWrong
-  wrong-list m e t = rw (← e, t) refl
-
-  -- a length too long
-  pub wrong-length : (m k : Bool) → m ≡ listWrong list → m ≡ false → k ≡ lengthOver (decodeTriples list) → k ≡ true → true ≡ batchWrong list bytes
-  unfolding batchWrong
-  wrong-length m k e t f u = rw (← e, t, ← f, u) refl
-
-  -- the lengths together
-  pub wrong-sum : (m k r : Bool) → m ≡ listWrong list → m ≡ false → k ≡ lengthOver (decodeTriples list) → k ≡ false
-      → r ≡ not (eqb (lengthsOf (decodeTriples list)) (length bytes)) → r ≡ batchWrong list bytes
-  unfolding batchWrong
-  wrong-sum m k r e t f u g = rw (← e, t, ← f, u) g
-
-  -- so the lengths add up to the bytes where the list is right
-  pub lengths-add : batchWrong list bytes ≡ false → lengthsOf (decodeTriples list) ≡ length bytes
-  unfolding batchWrong
-  lengths-add e =
-      eqb-true (lengthsOf (decodeTriples list)) (length bytes) (not-false (eqb (lengthsOf (decodeTriples list)) (length bytes))
-      (or-none-right (listWrong list || lengthOver (decodeTriples list)) (not (eqb (lengthsOf (decodeTriples list)) (length bytes))) e))
-
-  -- and there are not too many
-  pub list-short : batchWrong list bytes ≡ false → length list / tripleBytes ≤ mostTriples
-  unfolding batchWrong listWrong
-  list-short e =
-      ltb-false mostTriples (length list / tripleBytes) (or-none-right (not (eqb (length list % tripleBytes) 0)) (ltb mostTriples (length list / tripleBytes))
-      (or-none-left (listWrong list) (lengthOver (decodeTriples list)) (or-none-left (listWrong list || lengthOver (decodeTriples list)) (not (eqb (lengthsOf (decodeTriples list)) (length bytes))) e)))
+use Rattle.batch_tests.specs.Tests.{extentsCounted, ExtentsPlaced}
+use Rattle.batch.specs.Batch.{Wrote, batchTried}
 
 -- ---- one write
 
@@ -214,30 +177,6 @@ module _ (s : Store) (r : StoreReady s) where
   pub unshared-all : Once (mappedBlocks (extentsCounted (s .head) (s .extents))) → Unshared (decode s)
   unfolding decode decodeWith decodeBooks
   unshared-all o = o
-
--- the head that was read counts them
-module _ (head extents : List ℕ) where
-  -- what is asked for of them
-  pub head-counts : ExtentsPlaced head extents → (h : headStruct.Head) → headOf h ≡ decodeHead head
-      → (extentBytes * h .extents ≤ length extents) × (all (λ e. leb (e .physical + e .count) mostBlocks) (decodeBook decodeExtent extentBytes (h .extents) extents) ≡ true)
-  unfolding headOf
-  head-counts p h d =
-      let e : decodeHead head .extents ≡ h .extents = ap (λ (x : Head). x .extents) (sym d) in (
-        subst (λ (n : ℕ). extentBytes * n ≤ length extents) e (p .room),
-        subst (λ (n : ℕ). all (λ x. leb (x .physical + x .count) mostBlocks) (decodeBook decodeExtent extentBytes n extents) ≡ true) e (p .device),
-      )
-
-  -- what was told of them
-  pub counted-tells : (list : List ℕ) (h : headStruct.Head) → headOf h ≡ decodeHead head → (r : Bool) → TellsShared r (decodeBook decodeExtent extentBytes (h .extents) extents) → TellsAgain r list (extentsCounted head extents)
-  unfolding headOf
-  counted-tells list h d r o =
-      let e : h .extents ≡ decodeHead head .extents = ap (λ (x : Head). x .extents) d in
-      let k = subst (λ (n : ℕ). TellsShared r (decodeBook decodeExtent extentBytes n extents)) e o in
-      record { left-out = k .apart; made = λ t. inr (k .together t) }
-
--- a list with no second write
-pub single-again : (list : List ℕ) (es : List Extent) → length list ≤ tripleBytes → TellsAgain true list es
-single-again list es l = record { left-out = λ e. absurd (false≢true (sym e)); made = λ e. inl l }
 
 -- ---- the batch
 

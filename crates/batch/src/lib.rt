@@ -9,31 +9,18 @@ ghost use Prim.Native.Nat.{_/_, _≤_};
 ghost use lib.ListN.{length};
 ghost use Rattle.rules.specs.Store.{lent, decode};
 ghost use Rattle.rules.specs.Triples.{tripleBytes, mostTriples, decodeTriples, lengthsOf};
-ghost use Rattle.rules.specs.Batch.{batchWrong, batchFrom};
+ghost use Rattle.rules.specs.Batch.{batchFrom};
 ghost use Rattle.rules.proofs.PassLaws.{Passes};
 ghost use Rattle.history.proofs.UnsharedLaws.{Unshared};
 ghost use Rattle.intake.specs.Join.{storeNumber};
 ghost use Rattle.write.specs.Call.{StoreReady, answered};
-ghost use Rattle.batch.specs.Batch.{Wrote, batchTried, extentsCounted, ExtentsPlaced, TellsAgain};
+ghost use Rattle.batch.specs.Batch.{Wrote, batchTried};
 use triples::TRIPLE_BYTES;
 use write::Done;
 use write::MOST_RUNS;
 
 // The number of refusal 18.
 const BAD_BATCH: u32 = 18;
-
-// Whether the list is refused by 18.
-fn batch_wrong(list: &[u8], bytes: &[u8]) -> bool
-    ensures { λ r. ⌜ r ≡ batchWrong (now (list .entry)) (now (bytes .entry)) ⌝ }
-{
-    if triples::list_wrong(list) {
-        return true;
-    }
-    if triples::length_over(list) {
-        return true;
-    }
-    triples::lengths_differ(list, bytes.len())
-}
 
 // The number of refusal 1 or 2, or 0: tried if asked for; where they are not, the store passes them.
 fn tried(
@@ -156,19 +143,6 @@ fn write_all(
     }
 }
 
-// Whether the tests have to be made again between the writes of a list: they have where a block is shared. Of one write nothing is looked at, as there is
-// no between.
-fn tests_again(head: &[u8], extents: &[u8], list: &[u8]) -> bool
-    requires { ⌜ ExtentsPlaced (now head) (now extents) ⌝ }
-    ensures { λ r. ⌜ TellsAgain r (now (list .entry)) (extentsCounted (now (head .entry)) (now (extents .entry))) ⌝ }
-{
-    if list.len() <= TRIPLE_BYTES {
-        return true;
-    }
-    let h = format::head::decode_head(head);
-    sharing::shared_blocks(extents, h.extents as usize)
-}
-
 // A batch of writes: refusal 18, or how many were done and the number of what stopped them or 0.
 pub fn write_batch(
     image: &mut [u8],
@@ -186,13 +160,13 @@ pub fn write_batch(
     requires { ⌜ StoreReady (lent (now image) (now head) (now cards) (now extents) (now groups) (now used) (now retired)) ⌝ }
     ensures { λ r. ⌜ answered (r .number) (r .count) (lent (now (image .exit)) (now (head .exit)) (now (cards .exit)) (now (extents .exit)) (now (groups .exit)) (now (used .exit)) (now (retired .exit))) ≡ batchTried (now (list .entry)) (now (bytes .entry)) (record { seconds = seconds; nanoseconds = nanoseconds }) (lent (now (image .entry)) (now (head .entry)) (now (cards .entry)) (now (extents .entry)) (now (groups .entry)) (now (used .entry)) (now (retired .entry))) ⌝ }
 {
-    if batch_wrong(list, bytes) {
+    if batch_tests::batch_wrong(list, bytes) {
         return Done {
             number: BAD_BATCH,
             count: 0,
         };
     }
-    let shared = tests_again(head, extents, list);
+    let shared = batch_tests::tests_again(head, extents, list);
     write_all(
         image,
         head,

@@ -1,7 +1,8 @@
 -- `batch::write_batch` meets its contract.
 -- Assumes nothing.
 use mathlib.Core.Path.{sym, _∙_}
-use Rattle.batch.proofs.BatchLaws.{lengths-add, list-short, extents-placed, unshared-all, batch-refused, batch-tried}
+use Rattle.batch_tests.proofs.TestLaws.{lengths-add, list-short}
+use Rattle.batch.proofs.BatchLaws.{extents-placed, unshared-all, batch-refused, batch-tried}
 use borrow.Author.Needs.{needs}
 use Rattle.batch.proofs.write_batch.Statement.{statement}
 use Rattle.batch.proofs.write_batch.Tie as tie

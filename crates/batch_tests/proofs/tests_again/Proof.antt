@@ -1,9 +1,9 @@
--- `batch::tests_again` meets its contract.
+-- `batch_tests::tests_again` meets its contract.
 -- Assumes nothing.
-use Rattle.batch.proofs.BatchLaws.{head-counts, counted-tells, single-again}
+use Rattle.batch_tests.proofs.TestLaws.{head-counts, counted-tells, single-again}
 use borrow.Author.Needs.{needs}
-use Rattle.batch.proofs.tests_again.Statement.{statement}
-use Rattle.batch.proofs.tests_again.Tie as tie
+use Rattle.batch_tests.proofs.tests_again.Statement.{statement}
+use Rattle.batch_tests.proofs.tests_again.Tie as tie
 
 returns : tie.Need-returns
 returns c = single-again _ _ (c .if1 .taken)

@@ -1,9 +1,9 @@
--- `batch::batch_wrong` meets its contract.
+-- `batch_tests::batch_wrong` meets its contract.
 -- Assumes nothing.
-use Rattle.batch.proofs.BatchLaws.{wrong-list, wrong-length, wrong-sum}
+use Rattle.batch_tests.proofs.TestLaws.{wrong-list, wrong-length, wrong-sum}
 use borrow.Author.Needs.{needs}
-use Rattle.batch.proofs.batch_wrong.Statement.{statement}
-use Rattle.batch.proofs.batch_wrong.Tie as tie
+use Rattle.batch_tests.proofs.batch_wrong.Statement.{statement}
+use Rattle.batch_tests.proofs.batch_wrong.Tie as tie
 
 list-wrong-requires : tie.Need-list-wrong-requires
 list-wrong-requires c κs = search needs
