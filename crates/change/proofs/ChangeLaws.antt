@@ -37,8 +37,8 @@ use Rattle.finish_books.specs.Groups.{groupsIn, UnitsRight}
 use Rattle.file.specs.Change.{numbered}
 use Rattle.file.specs.Planned.{PlanReady, PlanRoom, ChangeFor, AllSettled, ChangePlanned}
 use Rattle.file.proofs.OutcomeLaws.{plan-refused}
-use Rattle.change.specs.Change.{changeOf, ChangeReady, HeadSays, ArraysEach, changed}
-use Rattle.change.specs.Carry.{CarryReady, CarryFor}
+use Rattle.carry.specs.Carry.{changeOf, CarryReady, CarryFor}
+use Rattle.change.specs.Change.{ChangeReady, HeadSays, ArraysEach, changed}
 use Rattle.change.proofs.StepLaws.{planned-hint, tail-group}
 use Rattle.change.proofs.BehindLaws.{Rest, rest-of, order-behind, each-behind, few-behind, clear-behind, right-behind}
 

@@ -1,4 +1,3 @@
 pub mod StepLaws
 pub mod BehindLaws
-pub mod CarryLaws
 pub mod ChangeLaws

@@ -21,11 +21,7 @@ use Rattle.rules.proofs.PassLaws.{Passes}
 use Rattle.kept.specs.Change.{ChangeFits}
 use Rattle.rewrite.specs.Answers.{fromCard}
 use Rattle.rewrite.specs.declared.Change as numbers
-
--- the change of object's file with these numbers and bytes
-abbrev pub changeOf : ℕ → numbers.Change → List ℕ → Change
-changeOf object n bytes =
-    record { object = object; oldSize = n .«old_size»; newSize = n .«new_size»; offset = n .offset; bytes = bytes }
+use Rattle.carry.specs.Carry.{changeOf}
 
 -- how a change's units lie in the file
 pub data Lie (c : Change) (us : List ℕ) : Type 0 where

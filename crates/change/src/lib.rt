@@ -1,8 +1,6 @@
 // A change to a file: planned, decided and carried out.
 //
 // The plan stores nothing, and whether the books that it leaves fit is known before anything is stored: a refused change leaves every byte as it was.
-pub mod carry;
-
 ghost use mathlib.Core.Path.{_≡_};
 ghost use Prim.Native.Nat.{_*_, _≤_};
 ghost use lib.ListN.{length};

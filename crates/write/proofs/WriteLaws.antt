@@ -26,7 +26,8 @@ use Rattle.rewrite.specs.declared.Change as numbers
 use Rattle.file.specs.Change.{numbered}
 use Rattle.file.specs.Tests.{writeNumber}
 use Rattle.file.proofs.CallLaws.{write-missing, write-empty, write-past, write-late, write-change}
-use Rattle.change.specs.Change.{ChangeReady, changeOf, changed}
+use Rattle.carry.specs.Carry.{changeOf}
+use Rattle.change.specs.Change.{ChangeReady, changed}
 use Rattle.write.specs.Call.{StoreReady, FileFound, FileReady, Taken, TimeFits, answered, writeOf, written}
 use Rattle.write.proofs.UnitsLaws.{units-write}
 use Rattle.write.proofs.FindLaws.{card-missing, card-known, card-object}

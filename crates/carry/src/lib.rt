@@ -17,7 +17,7 @@ ghost use Rattle.finish_extents.specs.Stretch.{Planned};
 ghost use Rattle.file.specs.Change.{numbered};
 ghost use Rattle.finish_fit.specs.Fits.{Fits};
 ghost use Rattle.file.specs.Flat.{flatBlocks};
-ghost use Rattle.change.specs.Carry.{CarryReady, CarryFor};
+ghost use Rattle.carry.specs.Carry.{CarryReady, CarryFor};
 use finish_extents::Exchange;
 use finish_fit::Fit;
 use format::sizes::BLOCK_BYTES;

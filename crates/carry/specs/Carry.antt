@@ -1,4 +1,4 @@
--- What is known of a planned change before it is decided whether its books fit, and the plans that its arrays tell of.
+-- A change by its numbers, what is known of it once it is planned and before it is decided whether its books fit, and the plans that its arrays tell of.
 -- Assumes nothing.
 use mathlib.Core.Path.{_≡_}
 use mathlib.Core.Bool.{true}
@@ -25,6 +25,11 @@ use Rattle.rewrite.specs.declared.Change as numbers
 use Rattle.finish_units.specs.Carry.{CarriesFor}
 use Rattle.finish_books.specs.Groups.{groupsIn, UnitsRight}
 use Rattle.finish_extents.specs.Stretch.{Planned}
+
+-- the change of object's file with these numbers and bytes
+abbrev pub changeOf : ℕ → numbers.Change → List ℕ → Change
+changeOf object n bytes =
+    record { object = object; oldSize = n .«old_size»; newSize = n .«new_size»; offset = n .offset; bytes = bytes }
 
 -- a store that passes with these numbers of records, the card of one of its files, a change of it, and arrays that fit its units: each begins in the file as it
 -- will be, the file has nothing between them, and every block that is named lies on the device

@@ -1,9 +1,9 @@
--- `change::carry::flat_blocks` meets its contract.
+-- `carry::flat_blocks` meets its contract.
 -- Assumes nothing.
 use borrow.Author.Needs.{needs}
-use Rattle.change.proofs.CarryLaws.{flat-none, last-inside, flat-counted}
-use Rattle.change.proofs.carry.flat_blocks.Statement.{statement}
-use Rattle.change.proofs.carry.flat_blocks.Tie as tie
+use Rattle.carry.proofs.CarryLaws.{flat-none, last-inside, flat-counted}
+use Rattle.carry.proofs.flat_blocks.Statement.{statement}
+use Rattle.carry.proofs.flat_blocks.Tie as tie
 
 returns : tie.Need-returns
 returns c = λ d e. flat-none _ (c .if1 .taken) d

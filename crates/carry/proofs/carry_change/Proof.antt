@@ -1,10 +1,10 @@
--- `change::carry::carry_change` meets its contract.
+-- `carry::carry_change` meets its contract.
 -- Assumes nothing.
 use native.Mathlib.Omega.{arith}
 use borrow.Author.Needs.{needs}
-use Rattle.change.proofs.CarryLaws.{each-begins, flat-taken, extents-asked, groups-asked, out-asked, change-refused, change-carried}
-use Rattle.change.proofs.carry.carry_change.Statement.{statement}
-use Rattle.change.proofs.carry.carry_change.Tie as tie
+use Rattle.carry.proofs.CarryLaws.{each-begins, flat-taken, extents-asked, groups-asked, out-asked, change-refused, change-carried}
+use Rattle.carry.proofs.carry_change.Statement.{statement}
+use Rattle.carry.proofs.carry_change.Tie as tie
 
 flat-blocks-requires : tie.Need-flat-blocks-requires
 flat-blocks-requires c κs =

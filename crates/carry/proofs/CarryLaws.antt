@@ -50,8 +50,7 @@ use Rattle.file.proofs.FitLaws.{fit-refused, fit-carried}
 use Rattle.finish_fit.proofs.FitLaws.{extents-fit, books-fit}
 use Rattle.file.proofs.OutLaws.{plan-told}
 use Rattle.file.proofs.ReadyLaws.{groups-ready, room-ready, left-ready, extents-left-ready, made-ready, flat-most}
-use Rattle.change.specs.Change.{changeOf}
-use Rattle.change.specs.Carry.{CarryReady, CarryFor}
+use Rattle.carry.specs.Carry.{changeOf, CarryReady, CarryFor}
 
 -- ---- the blocks of units side by side
 

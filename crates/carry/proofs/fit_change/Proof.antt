@@ -1,10 +1,10 @@
--- `change::carry::fit_change` meets its contract.
+-- `carry::fit_change` meets its contract.
 -- Assumes nothing.
 use native.Mathlib.Omega.{arith}
 use borrow.Author.Needs.{needs}
-use Rattle.change.proofs.CarryLaws.{fit-none}
-use Rattle.change.proofs.carry.fit_change.Statement.{statement}
-use Rattle.change.proofs.carry.fit_change.Tie as tie
+use Rattle.carry.proofs.CarryLaws.{fit-none}
+use Rattle.carry.proofs.fit_change.Statement.{statement}
+use Rattle.carry.proofs.fit_change.Tie as tie
 
 returns : tie.Need-returns
 returns c =
