@@ -24,7 +24,7 @@ use Rattle.rules.specs.Fresh.{freshVolume}
 use Rattle.rules.specs.Enter.{newCard, entered}
 use Rattle.rules.specs.Settle.{settled}
 use Rattle.rules.specs.Call.{Look, Call, InRange, call}
-use Rattle.rules.specs.Call.Look.{read, readMany, fill}
+use Rattle.rules.specs.Call.Look.{read, readMany, dataStretches, fill}
 use Rattle.rules.specs.Call.Call.{fresh, enter, write, grow, settle, look}
 use Rattle.rules.specs.Act.{Act, ActInRange, act, actRefused, partsDone}
 use Rattle.rules.specs.Act.Act.{whole, batch}
@@ -40,6 +40,7 @@ use Rattle.history.proofs.HistoryLaws.{Never, demand3-from, never-fresh
 use Rattle.history.proofs.HolderLaws.{SameFiles, inspect-same, files-entered, holders-settled, holders-entered, counts-entered}
 use Rattle.history.proofs.ReadLaws.{ObjectIs, AllKnown, read-plain, read-never}
 use Rattle.history.proofs.ReadManyLaws.{many-plain, many-never}
+use Rattle.history.proofs.HoleLaws.{stretches-plain, stretches-never}
 use Rattle.history.proofs.BatchHistory.{batch-keeps, batch-never}
 
 -- a unit at or past the end of its file, or of no file
@@ -274,6 +275,7 @@ never-look : (files : List File) (reserved : ℕ) (s : Store) → Inv files rese
 unfolding member any
 never-look files reserved s h (read object offset out) = read-never files s (all-known files reserved s h) object offset out (h .passes)
 never-look files reserved s h (readMany list out) = many-never files s (all-known files reserved s h) (h .passes) list out
+never-look files reserved s h (dataStretches object first units out) = stretches-never s (h .passes) object first units out
 never-look files reserved s h fill = ap (λ n. member n neverNumbers) (fill-number s (h .passes))
 
 module _ (w : ChangesRight) where
@@ -325,6 +327,7 @@ module _ (w : ChangesRight) where
   sound files reserved s b h = record {
     reads = λ object offset out i e. read-plain files s (all-known files reserved s h) object offset out (h .passes) e;
     readsMany = λ list out i e. many-plain files s (all-known files reserved s h) (h .passes) list out e;
+    stretches = λ object first units out i e. stretches-plain files s (all-known files reserved s h) object first units out (h .passes) e;
     onePlace = λ b l. h .blocksAgree .onePlace b (rw (room-decode s (h .passes) .blocks) l);
     counts = h .filesAgree .counts;
     created = h .filesAgree .created;

@@ -8,6 +8,7 @@
 --   HolderLaws         what enter and settle do to the holders of blocks and to the places of files
 --   ReadLaws           a read from its units: each unit, read, is what the plain array has there
 --   ReadManyLaws       many reads in one call, from that law of one read
+--   HoleLaws           a list of stretches leaves out nothing but zeros
 --   BatchHistory       a batch of writes, from what holds of each write
 --   Changes            write and grow, which `Invariant` leaves as a premise. An accepted one has a plan (FileCallLaws); then come
 --
@@ -37,6 +38,7 @@ pub mod Invariant
 pub mod HolderLaws
 pub mod ReadLaws
 pub mod ReadManyLaws
+pub mod HoleLaws
 pub mod BatchHistory
 pub mod Changes
 pub mod FileCallLaws

@@ -28,6 +28,7 @@ pub mod SettleLaws
 pub mod FillLaws
 pub mod UnitListLaws
 pub mod CountLaws
+pub mod StretchLaws
 pub mod AllocationLaws
 pub mod KeptLaws
 pub mod BytesKept

@@ -7,16 +7,16 @@ use Prim.Native.Nat.{ℕ, _≤_}
 use native.Mathlib.Omega.{arith}
 use Rattle.rules.specs.Store.{Store}
 use Rattle.rules.specs.Refusal.{Refusal, Outcome, Result, numberOf, result}
-use Rattle.rules.specs.Refusal.Refusal.{wrong-length, broken-rule, no-card, card-exists, past-limit, below-size, bad-time, no-card-place, no-checksum, not-backed, nonzero-past-end, checksum-differs, no-space, count-disagrees, no-group-place, no-extent-place, bad-reads, bad-batch}
+use Rattle.rules.specs.Refusal.Refusal.{wrong-length, broken-rule, no-card, card-exists, past-limit, below-size, bad-time, no-card-place, no-checksum, not-backed, nonzero-past-end, checksum-differs, no-space, count-disagrees, no-group-place, no-extent-place, bad-reads, bad-batch, bad-range}
 use Rattle.rules.specs.Refusal.Outcome.{refuse, accept}
 use Rattle.rules.specs.Call.{Call, call}
-use Rattle.rules.specs.Call.Look.{read, readMany, fill}
+use Rattle.rules.specs.Call.Look.{read, readMany, dataStretches, fill}
 use Rattle.rules.specs.Call.Call.{fresh, enter, write, grow, settle, look}
 
 -- document 01's numbers are 1 to 16, and document 02's go on from there
 pub record Numbered (n : ℕ) : Type 0 where
   pub least : 1 ≤ n
-  pub most : n ≤ 18
+  pub most : n ≤ 19
 
 pub numbered : (r : Refusal) → Numbered (numberOf r)
 unfolding numberOf
@@ -38,6 +38,7 @@ numbered no-group-place = record { least = omega arith; most = omega arith }
 numbered no-extent-place = record { least = omega arith; most = omega arith }
 numbered bad-reads = record { least = omega arith; most = omega arith }
 numbered bad-batch = record { least = omega arith; most = omega arith }
+numbered bad-range = record { least = omega arith; most = omega arith }
 
 -- a refused call: its number is one of the documents', its count 0, and the store and the output buffer are those lent
 pub record Unchanged (s : Store) (out : List ℕ) (r : Result) : Type 0 where
@@ -61,6 +62,7 @@ lentOut (grow object size time) = []
 lentOut settle = []
 lentOut (look (read object offset out)) = out
 lentOut (look (readMany list out)) = out
+lentOut (look (dataStretches object first units out)) = out
 lentOut (look fill) = []
 
 -- so is every public one
@@ -73,4 +75,5 @@ call-cases (grow object size time) s = result-cases s [] _
 call-cases settle s = result-cases s [] _
 call-cases (look (read object offset out)) s = result-cases s out _
 call-cases (look (readMany list out)) s = result-cases s out _
+call-cases (look (dataStretches object first units out)) s = result-cases s out _
 call-cases (look fill) s = result-cases s [] _

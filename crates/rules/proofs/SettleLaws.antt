@@ -24,9 +24,10 @@ use Rattle.rules.specs.Read.{Checked, readLength, handOut, readUnits, re
 use Rattle.rules.specs.Read.Checked.{failed, bytes}
 use Rattle.rules.specs.Triples.{Triple, decodeTriples}
 use Rattle.rules.specs.ReadMany.{readsWrong, withPiece, thenReads, readAll, readManyOutcome}
+use Rattle.rules.specs.Stretches.{listStretches, stretchesFile, stretchesOutcome}
 use Rattle.rules.specs.Settle.{settled, settleOutcome, fillOutcome}
 use Rattle.rules.specs.Call.{Look, call}
-use Rattle.rules.specs.Call.Look.{read, readMany, fill}
+use Rattle.rules.specs.Call.Look.{read, readMany, dataStretches, fill}
 use Rattle.rules.specs.Call.Call.{grow, settle, look}
 use Rattle.rules.proofs.ListLaws.{if-cases, if-true, maybe-cases, all-weaken, all-range-of, each-any}
 use Rattle.rules.proofs.StoreLaws.{VolumeFits}
@@ -146,12 +147,14 @@ all-stay answer s (t ∷ ts) lent out = then-stays s lent lent _ _ (all-stay ans
 
 -- reads and fill
 pub look-stays : (l : Look) (s : Store) → call (look l) s .store ≡ s
-unfolding call readOutcome readFile readUnits readManyOutcome fillOutcome result
+unfolding call readOutcome readFile readUnits readManyOutcome stretchesOutcome stretchesFile listStretches fillOutcome result
 look-stays (read object offset out) s =
     first-stays s out (storeCases s) _ (card-stays s out object _ (λ c e.
     if-cases (Stays s out) (eqb (readLength (c .size) offset (length out)) 0) _ _ (λ q. refl) (λ q. hand-stays _ _ s out _)))
 look-stays (readMany list out) s =
     first-stays s out (storeCases s) _ (first-stays s out ((bad-reads when readsWrong list out) ∷ []) _ (all-stay _ s (decodeTriples list) out out))
+look-stays (dataStretches object first units out) s =
+    first-stays s out (storeCases s) _ (card-stays s out object _ (λ c e. first-stays s out _ _ refl))
 look-stays fill s = first-stays s [] (storeCases s) _ refl
 
 -- a write of no bytes, whatever the limit of runs

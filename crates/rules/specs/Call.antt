@@ -12,12 +12,14 @@ use Rattle.rules.specs.Enter.{enterOutcome}
 use Rattle.rules.specs.Write.{writeOutcome, growOutcome}
 use Rattle.rules.specs.Read.{readOutcome}
 use Rattle.rules.specs.ReadMany.{readManyOutcome}
+use Rattle.rules.specs.Stretches.{stretchesOutcome}
 use Rattle.rules.specs.Settle.{settleOutcome, fillOutcome}
 
--- the calls that leave the store as it is; a read lends its output buffer, and many reads lend their list too
+-- the calls that leave the store as it is; a read lends its output buffer, many reads lend their list too, and so does a list of stretches its buffer
 pub data Look : Type 0 where
   read : (object offset : ℕ) (out : List ℕ) → Look
   readMany : (list out : List ℕ) → Look
+  dataStretches : (object first units : ℕ) (out : List ℕ) → Look
   fill : Look
 
 -- "fresh, enter (a new file), write, grow, read, settle, fill", and what document 02 adds
@@ -41,6 +43,7 @@ WordTime t = Word (t .seconds) × Word (t .nanoseconds)
 abbrev pub LookInRange : Look → Type 0
 LookInRange (read object offset out) = Word object × Word offset × Bytes out
 LookInRange (readMany list out) = Bytes list × Bytes out
+LookInRange (dataStretches object first units out) = Word object × Word first × Word units × Bytes out
 LookInRange fill = Unit {0}
 
 -- so for every call; nothing else is assumed of one
@@ -61,6 +64,7 @@ call (grow object size time) s = result s [] (growOutcome object size time s)
 call settle s = result s [] (settleOutcome s)
 call (look (read object offset out)) s = result s out (readOutcome object offset out s)
 call (look (readMany list out)) s = result s out (readManyOutcome list out s)
+call (look (dataStretches object first units out)) s = result s out (stretchesOutcome object first units out s)
 call (look fill) s = result s [] (fillOutcome s)
 
 -- the store after the calls

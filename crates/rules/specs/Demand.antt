@@ -2,20 +2,24 @@
 -- Assumes nothing.
 use mathlib.Core.Path.{_≡_}
 use mathlib.Core.List.{List, [], _∷_, _++_, map, flatMap, List·Memᴰ}
-use mathlib.Core.Bool.{false}
+use mathlib.Core.Bool.{true, false}
 use mathlib.Core.Option.{some}
-use Prim.Native.Nat.{ℕ, _+_, _<_}
+use Prim.Native.Nat.{ℕ, _+_, _*_, _≤_, _<_}
 use lib.Dec.{eqb, ltb}
 use lib.ListN.{length, drop}
-use Rattle.rules.specs.Lists.{if_then_else_, range, count, member}
+use Rattle.rules.specs.Lists.{if_then_else_, range, any, count, member}
+use Rattle.rules.specs.Sizes.{unitBytes}
+use Rattle.rules.specs.Bytes.{part, allZero}
 use Rattle.rules.specs.Card.{Card}
 use Rattle.rules.specs.Extent.{Extent}
+use Rattle.rules.specs.Book.{decodeBook}
 use Rattle.rules.specs.Store.{Store, StoreBytes, Volume, decode, imageBlocks, createdOf}
 use Rattle.rules.specs.Refusal.{Result}
 use Rattle.rules.specs.Triples.{decodeTriples}
 use Rattle.rules.specs.ReadMany.{different}
+use Rattle.rules.specs.Stretches.{Stretch, stretchBytes, decodeStretch, liesIn}
 use Rattle.rules.specs.Call.{Call, InRange, call}
-use Rattle.rules.specs.Call.Look.{read, readMany}
+use Rattle.rules.specs.Call.Look.{read, readMany, dataStretches}
 use Rattle.rules.specs.Call.Call.{fresh, enter, write, grow, settle, look}
 use Rattle.rules.specs.Act.{Act, ActInRange, act, actRefused, partsDone}
 use Rattle.rules.specs.Act.Act.{whole, batch}
@@ -100,13 +104,26 @@ pub record PlainAnswers (files : List File) (list out : List ℕ) (r : Result) :
   pub count : r .count ≡ different (flatMap (plainPairs files) (decodeTriples list))
   pub buffer : plainMany files (decodeTriples list) out ≡ some (r .out)
 
+-- the pairs that a list of stretches gave, read from its output buffer
+unfoldable pub pairsGiven : Result → List Stretch
+pairsGiven r = decodeBook decodeStretch stretchBytes (r .count) (r .out)
+
+-- what a list of stretches gave, held against the plain array of its object: what lies in no pair can be skipped
+pub record PlainStretches (files : List File) (object first units : ℕ) (r : Result) : Type 0 where
+  pub bytes : List ℕ
+  pub known : fileBytes files object ≡ some bytes
+  -- W-206: "to skip holes": a unit of the range that lies in no pair is zeros there, as far as the array goes
+  pub holes : (u : ℕ) → first ≤ u → u < first + units → any (liesIn u) (pairsGiven r) ≡ false → allZero (part (u * unitBytes) unitBytes bytes) ≡ true
+  -- and one that lies in a pair is in the range and starts before the array's end
+  pub within : (u : ℕ) → any (liesIn u) (pairsGiven r) ≡ true → (first ≤ u) × (u < first + units) × (u * unitBytes < length bytes)
+
 -- the refusals that never come: "2, 9 to 12 and 14"
 abbrev pub neverNumbers : List ℕ
 neverNumbers = 2 ∷ 9 ∷ 10 ∷ 11 ∷ 12 ∷ 14 ∷ []
 
 -- a store that calls left, the plain arrays after the same calls, and the number given to the last accepted fresh. Four clauses are the demand's
--- own, W-201's is the first of them for many reads, and W-205's is about the time on each card that no later call sets; plain arrays, places,
--- reserved and retired are as document 01 defines them
+-- own, W-201's is the first of them for many reads, W-206's is about what no stretch lists, and W-205's about the time on each card that no later call
+-- sets; plain arrays, places, reserved and retired are as document 01 defines them
 pub record Sound (files : List File) (reserved : ℕ) (s : Store) : Type 0 where
   -- "reads give the plain array's bytes": every read that is accepted, from any place into any buffer
   pub reads : (object offset : ℕ) (out : List ℕ) → InRange (look (read object offset out)) → call (look (read object offset out)) s .number ≡ 0
@@ -114,6 +131,9 @@ pub record Sound (files : List File) (reserved : ℕ) (s : Store) : Type 0 where
   -- so many reads in one call, of any list into any buffer: the count and the whole buffer are what the plain arrays say
   pub readsMany : (list out : List ℕ) → InRange (look (readMany list out)) → call (look (readMany list out)) s .number ≡ 0
       → PlainAnswers files list out (call (look (readMany list out)) s)
+  -- every list of stretches that is accepted, of any range into any buffer, leaves out nothing but zeros
+  pub stretches : (object first units : ℕ) (out : List ℕ) → InRange (look (dataStretches object first units out)) → call (look (dataStretches object first units out)) s .number ≡ 0
+      → PlainStretches files object first units (call (look (dataStretches object first units out)) s)
   -- "every block is in exactly one place": reserved, free, retired, or at one place of one file
   pub onePlace : (b : ℕ) → b < imageBlocks s → holders reserved (decode s) b ≡ 1
   -- "card counts are right": each card's allocated blocks are the places of its file

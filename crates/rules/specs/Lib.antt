@@ -27,6 +27,7 @@ pub mod Write
 pub mod Read
 pub mod Triples
 pub mod ReadMany
+pub mod Stretches
 pub mod Batch
 pub mod Settle
 pub mod Call

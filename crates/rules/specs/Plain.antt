@@ -40,7 +40,7 @@ overwrite offset new old = patch (padded offset old) offset new
 
 -- the step of an accepted call.
 -- "Fresh: none again. Enter: its object, no bytes. Write: empty, no change; else the first 1,048,576 bytes at most [..]. Grow: zeros up to the
--- new size. Read, settle, fill [..]: no change."; so many reads in one call
+-- new size. Read, settle, fill [..]: no change."; so many reads in one call, and a list of stretches
 unfoldable pub accepted : Call → List File → List File
 accepted (fresh uuid reserved) files = []
 accepted (enter object time) files = record { object = object; created = time; bytes = [] } ∷ files

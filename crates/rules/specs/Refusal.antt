@@ -26,6 +26,7 @@ pub data Refusal : Type 0 where
   no-extent-place : Refusal
   bad-reads : Refusal
   bad-batch : Refusal
+  bad-range : Refusal
 
 -- the number of each
 unfoldable pub numberOf : Refusal → ℕ
@@ -47,6 +48,7 @@ numberOf no-group-place = 15
 numberOf no-extent-place = 16
 numberOf bad-reads = 17
 numberOf bad-batch = 18
+numberOf bad-range = 19
 
 -- a refusal and the test that tells whether its case holds
 pub record Case : Type 0 where
