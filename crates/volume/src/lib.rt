@@ -8,7 +8,7 @@
 ghost use mathlib.Core.Path.{_≡_};
 ghost use Rattle.rules.specs.Store.{lent};
 ghost use Rattle.rules.specs.Call.{call};
-ghost use Rattle.rules.specs.Call.Look.{read, readMany, fill};
+ghost use Rattle.rules.specs.Call.Look.{read, readMany, dataStretches, fill};
 ghost use Rattle.rules.specs.Call.Call.{fresh, enter, write, grow, settle, look};
 ghost use Rattle.rules.specs.Act.{act};
 ghost use Rattle.rules.specs.Act.Act.{batch};
@@ -75,6 +75,35 @@ pub extern "C" fn sangueko_read_many(
     Answer {
         number: done.number,
         count: done.made,
+    }
+}
+
+// The stretches of a file that hold data, in the `units` units from `first` on: each as a pair of numbers of 8 bytes, its first unit and how many they
+// are, one behind the other at the head of `out`, ascending. The count is the number of pairs; the rest of `out` stays, and so does the store.
+#[no_mangle]
+pub extern "C" fn sangueko_data_stretches(
+    image: &[u8],
+    head: &[u8],
+    cards: &[u8],
+    extents: &[u8],
+    groups: &[u8],
+    used: &[u8],
+    retired: &[u8],
+    object: u64,
+    first: u64,
+    units: u64,
+    out: &mut [u8],
+) -> Answer
+    ensures { λ r. ⌜ handed (r .number) (r .count) (lent (now (image .entry)) (now (head .entry)) (now (cards .entry)) (now (extents .entry)) (now (groups .entry)) (now (used .entry)) (now (retired .entry))) (now (out .exit)) ≡ call (look (dataStretches object first units (now (out .entry)))) (lent (now (image .entry)) (now (head .entry)) (now (cards .entry)) (now (extents .entry)) (now (groups .entry)) (now (used .entry)) (now (retired .entry))) ⌝ }
+{
+    let number = intake::refused(image, head, cards, extents, groups, used, retired);
+    if number != 0 {
+        return Answer { number, count: 0 };
+    }
+    let listed = stretches::data_stretches(head, cards, groups, object, first, units, out);
+    Answer {
+        number: listed.number,
+        count: listed.count,
     }
 }
 
