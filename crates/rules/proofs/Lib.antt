@@ -19,6 +19,7 @@ pub mod ManyCases
 pub mod FillCases
 pub mod CardCases
 pub mod BatchCases
+pub mod StretchCases
 pub mod Refused
 pub mod PassLaws
 pub mod OutcomeLaws

@@ -11,6 +11,7 @@ pub mod Order
 pub mod Run
 pub mod Fill
 pub mod ReadMany
+pub mod Stretches
 pub mod Batches
 pub mod KeptBlocks
 pub mod Created

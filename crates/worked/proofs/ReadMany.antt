@@ -18,7 +18,7 @@ unfoldable pub triple : ℕ → ℕ → ℕ → List ℕ
 triple object offset len = leDigits 8 object ++ leDigits 8 offset ++ leDigits 8 len
 
 -- a call's number, its count and the buffer that it leaves
-pub given : Result → ℕ × ℕ × List ℕ
+unfoldable pub given : Result → ℕ × ℕ × List ℕ
 given r = (r .number, r .count, r .out)
 
 -- many reads into so many bytes of 77
@@ -26,7 +26,7 @@ pub reads : Store → List ℕ → ℕ → ℕ × ℕ × List ℕ
 reads s list room = given (call (look (readMany list (replicate room 77))) s)
 
 -- refused with this number: the count is 0, and the buffer is as it was lent
-pub refused : ℕ → ℕ → ℕ × ℕ × List ℕ
+unfoldable pub refused : ℕ → ℕ → ℕ × ℕ × List ℕ
 refused number room = (number, 0, replicate room 77)
 
 -- file 7 with the bytes 1 2 9 9 5 0 0 0
