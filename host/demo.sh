@@ -1,8 +1,8 @@
 #!/usr/bin/env bash
-# The command `sangueko` on a store in a temporary folder: a file of flags is written, overwritten, shown, settled and read back; a batch of writes is made,
-# and one that stops; a write is killed; then one byte of a copy is damaged in each of several ways, a copy gets the cards of an older store, and the
-# refusals are shown in words. Every answer is compared with what it has to be: the script fails where one is not. It needs the archive
-# (`rt staticlib volume`), ends by itself and leaves nothing behind.
+# The command `sangueko` on a store in a temporary folder: a file of flags is written, overwritten, shown, settled and read back, and it is told which parts
+# of it hold data; a batch of writes is made, and one that stops; a write is killed; then one byte of a copy is damaged in each of several ways, a copy gets
+# the cards of an older store, and the refusals are shown in words. Every answer is compared with what it has to be: the script fails where one is not. It
+# needs the archive (`rt staticlib volume`), ends by itself and leaves nothing behind.
 set -euo pipefail
 cd "$(dirname "$0")/.."
 cargo build --release --offline --quiet --manifest-path host/tool/Cargo.toml
@@ -49,6 +49,14 @@ run write store 7 more --at 400000
 truncate -s 400000 flags
 cat more >>flags
 run flags store 7
+
+say "Which parts of the file hold data, and which nobody wrote; and the same of its last three units alone"
+run data store 7 | tee told
+grep -q 'with data      4 units in 2 stretches, 253,392 bytes' told
+grep -q '^  0  AAA\.\.\.A$' told
+run data store 7 4 3 --json | tee told
+grep -q '"never_written":2,"without_checksum":0,"stretches":\[{"first":6,"units":1,"bytes":56784}\]' told
+ends 19 data store 7 1 18446744073709551615
 
 say "The store"
 run show store

@@ -14,8 +14,8 @@
  *
  * The three books (cards, extents, groups) have 0 to SANGUEKO_MOST_PLACES places each. The caller chooses the lengths once, calls sangueko_fresh, and
  * lends buffers of the same lengths from then on; the buffers, kept as they are, are the store. sangueko_enter adds a file, sangueko_write and
- * sangueko_grow change it, sangueko_write_batch makes many writes at once, sangueko_read gives a file's bytes, and sangueko_read_many those of many
- * ranges at once.
+ * sangueko_grow change it, sangueko_write_batch makes many writes at once, sangueko_read gives a file's bytes, sangueko_read_many those of many ranges
+ * at once, and sangueko_data_stretches tells which parts of it hold data.
  *
  * A call answers a number and a count. Number 0: it did its work, and the count is its answer. Any other number is one of enum sangueko_refusal: the
  * call was refused, its count is 0 and no byte of any buffer has changed; but sangueko_write_batch can also stop on the way. A call tries its refusals
@@ -85,6 +85,11 @@ extern "C" {
 #define SANGUEKO_RANGE_BYTES 24
 #define SANGUEKO_MOST_RANGES 64
 
+/* Bytes of a unit of a file, and of a stretch of units in the output of sangueko_data_stretches. A stretch is two numbers of 8 bytes each, least
+ * significant byte first: its first unit and how many units it has. */
+#define SANGUEKO_UNIT_BYTES 65536
+#define SANGUEKO_STRETCH_BYTES 16
+
 /* Stack that a call takes at most. */
 #define SANGUEKO_STACK_BYTES 262144
 
@@ -127,7 +132,9 @@ enum sangueko_refusal {
     SANGUEKO_BAD_READS = 17,
     /* A list of writes is not whole ranges, has over SANGUEKO_MOST_RANGES of them, a length exceeds SANGUEKO_MOST_TRANSFER, or the lengths do not add
      * up to the bytes. Tried right behind 2. */
-    SANGUEKO_BAD_BATCH = 18
+    SANGUEKO_BAD_BATCH = 18,
+    /* A range of units whose first unit and number of units add up to more than 2^64 - 1, or whose stretches have no place in the output. */
+    SANGUEKO_BAD_RANGE = 19
 };
 
 /* What a call answers: number 0 and a count, or the number of its refusal and count 0; of a batch, what stopped it, or 0, and the writes done. */
@@ -291,6 +298,26 @@ struct sangueko_answer sangueko_write_batch(
     const uint8_t *list, size_t list_len,
     const uint8_t *bytes, size_t bytes_len,
     uint64_t seconds, uint64_t nanoseconds);
+
+/*
+ * Tells which of `units` units of the file, from unit `first` on, hold data: which have a checksum and begin before the file's end. `out` gets them as
+ * stretches of SANGUEKO_STRETCH_BYTES each, one behind the other and ascending: each is all units with data that follow one another within the range,
+ * whichever groups their checksums stand in. The rest of `out` stays as it is. A unit that is in no stretch reads as zeros, or is past the end; or it has
+ * blocks but no checksum, which no list of calls leads to, and a read of it is refused by 9. No unit is read here: its bytes are not compared with its
+ * checksum. The range may be any, as from 0 with 2^64 - 1 units for the whole file; what it costs depends on the file's groups, not on the range.
+ * Count: the stretches. They are at most half of `units`, rounded up, and at most 128 for each group of the file: with SANGUEKO_STRETCH_BYTES for each of
+ * these `out` is always long enough. Refused, in this order, by 1, 2, 3 (no such file), 19 (the range, or too little room for all stretches).
+ */
+struct sangueko_answer sangueko_data_stretches(
+    const uint8_t *image, size_t image_len,
+    const uint8_t *head, size_t head_len,
+    const uint8_t *cards, size_t cards_len,
+    const uint8_t *extents, size_t extents_len,
+    const uint8_t *groups, size_t groups_len,
+    const uint8_t *used, size_t used_len,
+    const uint8_t *retired, size_t retired_len,
+    uint64_t object, uint64_t first, uint64_t units,
+    uint8_t *out, size_t out_len);
 
 #ifdef __cplusplus
 }

@@ -72,6 +72,13 @@ static struct sangueko_answer read_many(void)
     return sangueko_read_many(LENT, list, sizeof list, out, sizeof out);
 }
 
+/* The one stretch of the one group. */
+static struct sangueko_answer stretches(void)
+{
+    static uint8_t out[SANGUEKO_STRETCH_BYTES];
+    return sangueko_data_stretches(LENT, 7, 0, UINT64_MAX, out, sizeof out);
+}
+
 /* Most of unit 0, and some of unit 1. */
 static struct sangueko_answer write_file(void)
 {
@@ -164,8 +171,8 @@ int main(void)
         struct sangueko_answer (*call)(void);
         uint64_t count;
     } calls[] = { { "fresh", fresh, 0 }, { "enter", enter, 0 }, { "settle", settle, 1 }, { "fill", fill, 31 },
-                  { "read", read_file, SANGUEKO_BLOCK_BYTES }, { "read_many", read_many, 1 }, { "write", write_file, 70000 },
-                  { "write_batch", write_batch, SANGUEKO_MOST_RANGES }, { "grow", grow_file, 0 } };
+                  { "read", read_file, SANGUEKO_BLOCK_BYTES }, { "read_many", read_many, 1 }, { "data_stretches", stretches, 1 },
+                  { "write", write_file, 70000 }, { "write_batch", write_batch, SANGUEKO_MOST_RANGES }, { "grow", grow_file, 0 } };
     int failed = 0;
     printf("stack:");
     for (size_t i = 0; i < sizeof calls / sizeof calls[0]; i++) {

@@ -179,6 +179,19 @@ static struct sangueko_answer write_batch(struct store *s, const struct range *r
     return write_list(s, ranges, n, n * SANGUEKO_RANGE_BYTES, len, seconds);
 }
 
+struct stretch {
+    uint64_t first, units;
+};
+
+/* The output of stretches, 0x77 all over before the call: there is place for three of them, and for some bytes more. */
+static uint8_t pairs[3 * SANGUEKO_STRETCH_BYTES + 8];
+
+static struct sangueko_answer stretches(struct store *s, uint64_t object, uint64_t first, uint64_t units, size_t len)
+{
+    memset(pairs, 0x77, sizeof pairs);
+    return sangueko_data_stretches(LENT(s), object, first, units, pairs, len);
+}
+
 static struct sangueko_answer grow(struct store *s, uint64_t object, uint64_t size, uint64_t seconds, uint64_t nanoseconds)
 {
     return sangueko_grow(LENT(s), object, size, seconds, nanoseconds);
@@ -239,6 +252,26 @@ static void unread(const char *what, struct sangueko_answer answer, enum sanguek
     EXPECT(what, all(out, sizeof out, 0x77));
 }
 
+/* Accepted with these stretches, and what is behind them as it was. */
+static void listed(const char *what, struct sangueko_answer answer, const struct stretch *expected, size_t n)
+{
+    uint8_t bytes[sizeof pairs];
+    memset(bytes, 0x77, sizeof bytes);
+    for (size_t i = 0; i < n; i++) {
+        put_number(bytes + i * SANGUEKO_STRETCH_BYTES, expected[i].first);
+        put_number(bytes + i * SANGUEKO_STRETCH_BYTES + 8, expected[i].units);
+    }
+    accepted(what, answer, n);
+    EXPECT(what, memcmp(pairs, bytes, sizeof pairs) == 0);
+}
+
+/* Refused, and no byte of the output changed. */
+static void unlisted(const char *what, struct sangueko_answer answer, enum sangueko_refusal number)
+{
+    refused(what, answer, number);
+    EXPECT(what, all(pairs, sizeof pairs, 0x77));
+}
+
 /* Lists of reads that are refused by 17 although there is no file 9, and by 3 where they are lists. */
 static void bad_lists(struct store *s)
 {
@@ -296,6 +329,7 @@ static void refusals(struct store *s, uint8_t *kept[BUFFERS])
         refused("batch, a buffer one byte short", write_list(s, NULL, 0, 1, 0, 0), SANGUEKO_WRONG_LENGTH);
         unread("read, a buffer one byte short", read_at(s, 7, 0, sizeof out), SANGUEKO_WRONG_LENGTH);
         unread("many reads, a buffer one byte short", read_list(s, NULL, 0, 1, sizeof out), SANGUEKO_WRONG_LENGTH);
+        unlisted("stretches, a buffer one byte short", stretches(s, 9, UINT64_MAX, 1, 0), SANGUEKO_WRONG_LENGTH);
         s->len[i]++;
     }
     refused("fresh, a short uuid", fresh(s, sizeof uuid - 1, 1), SANGUEKO_WRONG_LENGTH);
@@ -320,6 +354,12 @@ static void refusals(struct store *s, uint8_t *kept[BUFFERS])
     refused("grow, too many nanoseconds", grow(s, 7, 1, most, 1000000000), SANGUEKO_BAD_TIME);
 
     unread("read, no such file", read_at(s, 9, 0, sizeof out), SANGUEKO_NO_CARD);
+
+    /* 3 before 19 */
+    unlisted("stretches, no such file", stretches(s, 9, UINT64_MAX, 1, 0), SANGUEKO_NO_CARD);
+    unlisted("stretches of nothing, no such file", stretches(s, 9, 0, 0, sizeof pairs), SANGUEKO_NO_CARD);
+    unlisted("stretches, a sum past 64 bits", stretches(s, 7, UINT64_MAX, 1, sizeof pairs), SANGUEKO_BAD_RANGE);
+    listed("stretches of an empty file", stretches(s, 7, 0, UINT64_MAX, 0), NULL, 0);
 
     bad_lists(s);
     bad_batches(s);
@@ -348,6 +388,7 @@ static void broken(struct store *s, uint8_t *kept[BUFFERS])
     refused("batch of one, a broken rule", write_batch(s, (const struct range[]){ { 7, 0, 1 } }, 1, 0), SANGUEKO_BROKEN_RULE);
     refused("read, a broken rule", read_at(s, 7, 0, sizeof out), SANGUEKO_BROKEN_RULE);
     unread("many reads, a broken rule", read_list(s, NULL, 0, 1, sizeof out), SANGUEKO_BROKEN_RULE);
+    unlisted("stretches, a broken rule", stretches(s, 9, UINT64_MAX, 1, 0), SANGUEKO_BROKEN_RULE);
     open_all(s);
     unchanged("a broken rule", s, kept);
     s->at[RETIRED][0] &= 0x7f;
@@ -752,6 +793,110 @@ static void no_places(struct store *s)
     stopped("batch, no places", write_batch(&bare, (const struct range[]){ { 7, 0, 1 } }, 1, 0), SANGUEKO_NO_CARD, 0);
     accepted("no reads, no places", read_many(&bare, NULL, 0), 0);
     unread("many reads, no places", read_many(&bare, (const struct range[]){ { 7, 0, 1 } }, 1), SANGUEKO_NO_CARD);
+    unlisted("stretches, no places", stretches(&bare, 7, 0, 1, sizeof pairs), SANGUEKO_NO_CARD);
+}
+
+/* A group of a file, without checksums. */
+static void put_group(uint8_t *group, uint8_t object, uint64_t number)
+{
+    memset(group, 0, SANGUEKO_GROUP_BYTES);
+    group[7] = object;
+    group[8] = 4;
+    put_bits(group, 72, 64, number);
+}
+
+/* Checksums, of any value, for its units from one slot to another. */
+static void put_slots(uint8_t *group, unsigned first, unsigned last)
+{
+    for (unsigned slot = first; slot <= last; slot++) {
+        group[17 + slot / 8] |= (uint8_t)(1 << slot % 8);
+        group[49 + 4 * slot] = 1;
+    }
+}
+
+/*
+ * Which units of file 7 hold data. Nothing is asked of the image, so that there need not be any: the book of groups has checksums of units 3, 254 to
+ * 257 and 511 to 514 of it, which ends with the first byte of unit 514, and of units far behind its end; and one of file 5.
+ */
+static void holes(struct store *s, uint8_t *kept[BUFFERS])
+{
+    const uint64_t most = UINT64_MAX;
+    struct store wide = *s;
+    const size_t len = 6 * SANGUEKO_GROUP_BYTES;
+    uint8_t *groups = wide.at[GROUP] = pages(len);
+    wide.len[GROUP] = len;
+    open_all(s);
+    accepted("fresh for stretches", fresh(&wide, sizeof uuid, 1), 0);
+    accepted("enter 5 for stretches", enter(&wide, 5, 0, 0), 0);
+    accepted("enter 7 for stretches", enter(&wide, 7, 0, 0), 0);
+    put_group(groups, 5, 0);
+    put_slots(groups, 4, 4);
+    for (unsigned i = 0; i < 3; i++)
+        put_group(groups + (1 + i) * SANGUEKO_GROUP_BYTES, 7, i);
+    put_slots(groups + 1 * SANGUEKO_GROUP_BYTES, 3, 3);
+    put_slots(groups + 1 * SANGUEKO_GROUP_BYTES, 254, 255);
+    put_slots(groups + 2 * SANGUEKO_GROUP_BYTES, 0, 1);
+    put_slots(groups + 2 * SANGUEKO_GROUP_BYTES, 255, 255);
+    put_slots(groups + 3 * SANGUEKO_GROUP_BYTES, 0, 5);
+    /* the last unit that a number can have, and one more, which in 64 bits would be unit 0 */
+    put_group(groups + 4 * SANGUEKO_GROUP_BYTES, 7, most / 256);
+    put_slots(groups + 4 * SANGUEKO_GROUP_BYTES, 254, 255);
+    put_group(groups + 5 * SANGUEKO_GROUP_BYTES, 7, most / 256 + 1);
+    put_slots(groups + 5 * SANGUEKO_GROUP_BYTES, 0, 255);
+    put_bits(wide.at[HEAD], 204, 20, 6);
+    uint8_t *card = wide.at[CARD] + SANGUEKO_CARD_BYTES;
+    put_bits(card, 64, 63, 514 * (uint64_t)SANGUEKO_UNIT_BYTES + 1);
+    keep(s, kept);
+    close_all(s);
+    protect(groups, len, PROT_READ);
+
+    const struct stretch all_of_it[] = { { 3, 1 }, { 254, 4 }, { 511, 4 } };
+    listed("stretches of all", stretches(&wide, 7, 0, most, sizeof pairs), all_of_it, 3);
+    listed("stretches of all, just room enough", stretches(&wide, 7, 0, 515, 48), all_of_it, 3);
+    unlisted("stretches of all, a byte too few", stretches(&wide, 7, 0, 515, 47), SANGUEKO_BAD_RANGE);
+    unlisted("stretches of all, no room", stretches(&wide, 7, 0, most, 0), SANGUEKO_BAD_RANGE);
+    unlisted("stretches, a sum past 64 bits", stretches(&wide, 7, 1, most, sizeof pairs), SANGUEKO_BAD_RANGE);
+    listed("stretches, the largest sum", stretches(&wide, 7, 512, most - 512, sizeof pairs), (const struct stretch[]){ { 512, 3 } }, 1);
+    listed("stretches of file 5, which is empty", stretches(&wide, 5, 0, most, sizeof pairs), NULL, 0);
+
+    /* the range's first unit and its last cut a stretch, within a group and where two meet */
+    listed("stretches, cut in front", stretches(&wide, 7, 255, 257, sizeof pairs), (const struct stretch[]){ { 255, 3 }, { 511, 1 } }, 2);
+    listed("stretches, cut behind", stretches(&wide, 7, 4, 252, sizeof pairs), (const struct stretch[]){ { 254, 2 } }, 1);
+    listed("stretches, cut on both sides", stretches(&wide, 7, 512, 2, sizeof pairs), (const struct stretch[]){ { 512, 2 } }, 1);
+    listed("stretches, one unit of four", stretches(&wide, 7, 256, 1, sizeof pairs), (const struct stretch[]){ { 256, 1 } }, 1);
+
+    /* one stretch, and none */
+    unlisted("one stretch, 15 bytes", stretches(&wide, 7, 0, 254, 15), SANGUEKO_BAD_RANGE);
+    listed("one stretch, 16 bytes", stretches(&wide, 7, 0, 254, 16), all_of_it, 1);
+    listed("no stretch, 15 bytes", stretches(&wide, 7, 4, 250, 15), NULL, 0);
+    listed("no stretch, no room", stretches(&wide, 7, 258, 253, 0), NULL, 0);
+    listed("no units", stretches(&wide, 7, 255, 0, sizeof pairs), NULL, 0);
+
+    /* past the end there are checksums, and no units */
+    listed("stretches past the end", stretches(&wide, 7, 515, most - 515, sizeof pairs), NULL, 0);
+    listed("the last unit of all, past the end", stretches(&wide, 7, most - 1, 1, sizeof pairs), NULL, 0);
+    listed("no units from the last number on", stretches(&wide, 7, most, 0, sizeof pairs), NULL, 0);
+    unlisted("a unit from the last number on", stretches(&wide, 7, most, 1, sizeof pairs), SANGUEKO_BAD_RANGE);
+    unlisted("no room, from the last number on", stretches(&wide, 7, most, most, 0), SANGUEKO_BAD_RANGE);
+
+    /* the file a byte shorter ends with unit 513; with no byte it has no unit; with the most bytes it has 2^47 */
+    open_all(s);
+    put_bits(card, 64, 63, 514 * (uint64_t)SANGUEKO_UNIT_BYTES);
+    listed("stretches, whole units", stretches(&wide, 7, 258, most - 258, sizeof pairs), (const struct stretch[]){ { 511, 3 } }, 1);
+    put_bits(card, 64, 63, 0);
+    listed("stretches of no bytes", stretches(&wide, 7, 0, most, sizeof pairs), NULL, 0);
+    put_bits(card, 64, 63, INT64_MAX);
+    listed("stretches of the largest file", stretches(&wide, 7, 258, most - 258, sizeof pairs), (const struct stretch[]){ { 511, 7 } }, 1);
+    put_bits(card, 64, 63, 514 * (uint64_t)SANGUEKO_UNIT_BYTES + 1);
+    unchanged("stretches", s, kept);
+
+    /* block 3 at unit 4, which has no checksum: it is in no stretch, and a read of it is refused */
+    static const uint8_t extent[SANGUEKO_EXTENT_BYTES] = { [7] = 7, [8] = 3, [16] = 64, [17] = 3, [25] = 1 };
+    memcpy(wide.at[EXTENT], extent, sizeof extent);
+    put_bits(wide.at[HEAD], 184, 20, 1);
+    wide.at[USED][0] |= 8;
+    listed("a block without a checksum", stretches(&wide, 7, 0, 10, sizeof pairs), all_of_it, 1);
+    unread("a read of it", read_at(&wide, 7, 4 * (uint64_t)SANGUEKO_UNIT_BYTES, 1), SANGUEKO_NO_CHECKSUM);
 }
 
 int main(void)
@@ -823,11 +968,12 @@ int main(void)
     changes(&s, kept);
     batches(&s, kept);
     no_places(&s);
+    holes(&s, kept);
 
     if (differences != 0) {
         printf("store: %d differences\n", differences);
         return 1;
     }
-    printf("store: the nine calls as asked; each of the eighteen refusals changes nothing\n");
+    printf("store: the ten calls as asked; each of the nineteen refusals changes nothing\n");
     return 0;
 }

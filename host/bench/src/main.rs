@@ -3,9 +3,10 @@
 //! instruction and with slicing by 8. The calls here test the whole store each
 //! time, which the Rust does not; what that costs is shown apart. Many reads in
 //! one call and batches of writes, which the Rust does not have, stand beside as
-//! many calls.
+//! many calls, and the list of what holds data beside plain walks.
 //!
-//! `bench [reads] [many] [writes] [batches] [extents]`: those parts, or all of them.
+//! `bench [reads] [many] [writes] [batches] [extents] [stretches]`: those parts, or
+//! all of them.
 
 mod batches;
 mod checksum;
@@ -15,6 +16,7 @@ mod many;
 mod measure;
 mod reads;
 mod stores;
+mod stretches;
 mod writes;
 
 use std::hint::black_box;
@@ -62,6 +64,9 @@ fn main() {
     }
     if part("extents") {
         by_extents();
+    }
+    if part("stretches") {
+        stretches::compared();
     }
 }
 

@@ -8,6 +8,7 @@ use model::records::{CARD_BYTES, CARD_SPARE, EXTENT_BYTES, GROUP_BYTES, put_bits
 use model::{BLOCK_BYTES, Call, Card, Extent, Group, MAX_SIZE, Store, Time, UNIT_BYTES, Volume};
 
 use crate::lists::read_many;
+use crate::ranges::data_stretches;
 use crate::writes::{batch_of, write_batch};
 
 pub struct Alone {
@@ -32,8 +33,8 @@ const D: u64 = 20;
 const E: u64 = 21;
 const LAST: u64 = u64::MAX - 1;
 
-/// The calls that meet every store: each of the nine, and those that change
-/// nothing. On the sound store all are accepted.
+/// The calls that meet every store: each of the ten, and those that change or
+/// list nothing. On the sound store all are accepted.
 pub fn calls() -> Vec<Call> {
     let write = |bytes: &[u8]| Call::Write {
         object: C,
@@ -69,15 +70,19 @@ pub fn calls() -> Vec<Call> {
         read_many(&[], 0),
         write_batch(&[(C, 65_500, 50), (B, 100, 20), (C, 0, 0)]),
         write_batch(&[]),
+        data_stretches(C, 0, 300, 16),
+        data_stretches(C, 0, 0, 0),
         fresh(16, 0),
     ]
 }
 
-/// Lists that refusals 17 and 18 refuse, which are tried after 1 and 2.
-pub fn bad_lists() -> [Call; 2] {
+/// Lists that refusals 17 and 18 refuse and a range that 19 does, which are tried
+/// after 1 and 2.
+pub fn bad_lists() -> [Call; 3] {
     [
         read_many(&[(C, 0, 11)], 10),
         batch_of(&[(C, 0, 11)], 10, TIME),
+        data_stretches(C, 1, u64::MAX, 16),
     ]
 }
 

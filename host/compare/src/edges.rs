@@ -14,7 +14,9 @@ use crate::batch::batches;
 use crate::created::created;
 use crate::lists::read_many;
 use crate::many::many;
+use crate::ranges::data_stretches;
 use crate::smallest::smallest;
+use crate::stretches::stretches;
 use crate::writes::{batch_of, write_batch};
 
 /// One call on a store; many share one.
@@ -90,6 +92,8 @@ pub fn edges() -> Vec<Edge> {
     for small in smallest() {
         all.push(edge("a listed difference", &small.store.into(), small.call));
     }
+    // On the smallest stores, so that they come before the others at little cost.
+    all.extend(stretches());
     ends(&mut all);
     times(&mut all);
     transfers(&mut all);
@@ -322,6 +326,8 @@ fn nothing(all: &mut Vec<Edge>) {
             write_batch(&[(7, 0, 0)]),
             write_batch(&[(7, 0, 1), (7, 4_095, 2)]),
             batch_of(&[], 1, TIME),
+            data_stretches(7, 0, 1, 0),
+            data_stretches(7, 1, u64::MAX, 0),
             Call::Settle,
             Call::Fill,
         ] {
@@ -342,6 +348,8 @@ fn nothing(all: &mut Vec<Edge>) {
             read_many(&[(7, 0, 9)], 8),
             write_batch(&[(7, 1, 1)]),
             batch_of(&[(7, 1, 1)], 2, TIME),
+            data_stretches(7, 0, 1, 16),
+            data_stretches(7, 0, 1, 15),
             Call::Fill,
         ] {
             all.push(edge("with one buffer empty", &other, call));
@@ -750,8 +758,17 @@ pub fn large() -> impl Iterator<Item = (&'static str, Store, Vec<Call>)> {
     let reads = || {
         let many = read_many(&[(7, 0, 5)], 5);
         let batch = write_batch(&[(7, 0, 5)]);
+        let stretches = data_stretches(7, 0, 5, 16);
         let (write, grow) = (write(7, 0, 5), grow(7, 5));
-        vec![Call::Fill, read(7, 0, 5), many, write, batch, grow]
+        vec![
+            Call::Fill,
+            read(7, 0, 5),
+            many,
+            stretches,
+            write,
+            batch,
+            grow,
+        ]
     };
     let every = move || [reads(), vec![Call::Settle, enter(7), fresh(16, 0)]].concat();
     let with_places = |name, cards, extents, groups| {

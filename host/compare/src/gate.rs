@@ -23,11 +23,11 @@ use crate::walk::{Event, Walk};
 /// The seed of the gate's histories.
 pub const SEED: u64 = 31;
 /// Calls of histories that the gate makes.
-pub const HISTORY_CALLS: u64 = 23_000;
+pub const HISTORY_CALLS: u64 = 25_000;
 /// Of those, before the calls of [`pairs`] and the large stores.
 const EARLY_CALLS: u64 = 2_000;
 /// Calls of histories between guard pages, on each side.
-const GUARDED_CALLS: u64 = 1_750;
+const GUARDED_CALLS: u64 = 1_900;
 
 /// How long a failing case is made smaller.
 const SHRINKING: Duration = Duration::from_secs(10);
@@ -360,10 +360,11 @@ impl<'a> Gate<'a> {
             "read",
             "read_many",
             "write_batch",
+            "data_stretches",
             "settle",
             "fill",
         ] {
-            let _ = write!(text, "  {name:11}");
+            let _ = write!(text, "  {name:14}");
             for ((_, number), count) in self.answers.iter().filter(|((n, _), _)| *n == name) {
                 let _ = write!(text, "  {number}: {count}");
             }
@@ -393,7 +394,8 @@ fn prepared(edges: Vec<Edge>) -> Vec<Single> {
 }
 
 /// The sound stores and those that break a word, met by every call and by lists
-/// that refusals 17 and 18 refuse; and the broken stores that are recorded.
+/// and a range that refusals 17 to 19 refuse; and the broken stores that are
+/// recorded.
 fn met_by_every_call() -> Vec<Edge> {
     let sound = sounds().map(|store| ("a sound store".into(), Arc::new(store)));
     let alone = alone()

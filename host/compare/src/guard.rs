@@ -213,6 +213,23 @@ impl Library for Guarded<'_> {
                 };
                 self.library.lent(guarded, request)
             }
+            Request::DataStretches {
+                object,
+                first,
+                units,
+                out,
+            } => {
+                let list = |out: &mut [u8]| {
+                    let request = Request::DataStretches {
+                        object,
+                        first,
+                        units,
+                        out,
+                    };
+                    self.library.lent(guarded, request)
+                };
+                self.between_pages(out, list)
+            }
             request => self.library.lent(guarded, request),
         };
         for (to, from) in buffers.into_iter().zip(&pages) {

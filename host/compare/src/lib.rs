@@ -1,6 +1,6 @@
 //! Runs calls through document 01's model and what is held against it: the
 //! published Rust (`run`), where listed differences are forgiven, and a library
-//! of the nine calls (`gate`), where none is; or through all three (`three`).
+//! of the ten calls (`gate`), where none is; or through all three (`three`).
 //! `plain` holds a library against demand 3's plain arrays.
 
 pub mod alone;
@@ -17,12 +17,14 @@ pub mod library;
 pub mod lists;
 pub mod many;
 pub mod plain;
+pub mod ranges;
 pub mod recorded;
 pub mod rough;
 pub mod run;
 pub mod sample;
 pub mod shrink;
 pub mod smallest;
+pub mod stretches;
 pub mod three;
 pub mod walk;
 pub mod writes;

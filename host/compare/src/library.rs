@@ -1,4 +1,4 @@
-//! What is held against the model: a library of the nine calls over lent
+//! What is held against the model: a library of the ten calls over lent
 //! buffers. The model itself, a wrong model and the linked archive can all
 //! stand behind it.
 
@@ -53,6 +53,12 @@ pub enum Request<'a> {
         bytes: &'a [u8],
         seconds: u64,
         nanoseconds: u64,
+    },
+    DataStretches {
+        object: u64,
+        first: u64,
+        units: u64,
+        out: &'a mut [u8],
     },
     Settle,
     Fill,
@@ -163,6 +169,17 @@ pub fn request<'a>(call: &'a Call, out: &'a mut [u8]) -> Request<'a> {
             seconds: time.seconds,
             nanoseconds: time.nanoseconds,
         },
+        Call::DataStretches {
+            object,
+            first,
+            units,
+            ..
+        } => Request::DataStretches {
+            object,
+            first,
+            units,
+            out,
+        },
         Call::Settle => Request::Settle,
         Call::Fill => Request::Fill,
     }
@@ -269,6 +286,20 @@ fn owned(request: Request<'_>) -> (Call, Option<&mut [u8]>) {
             bytes: bytes.to_vec(),
             time: time(seconds, nanoseconds),
         },
+        Request::DataStretches {
+            object,
+            first,
+            units,
+            out,
+        } => {
+            let call = Call::DataStretches {
+                object,
+                first,
+                units,
+                length: out.len(),
+            };
+            return (call, Some(out));
+        }
         Request::Settle => Call::Settle,
         Request::Fill => Call::Fill,
     };

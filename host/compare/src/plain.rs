@@ -3,11 +3,15 @@
 
 use std::collections::{BTreeMap, BTreeSet};
 
-use model::{Answer, Call, Card, MAX_TRANSFER_BYTES, MAX_TRIPLES, Store, Time, Triple, Volume};
+use model::records::STRETCH_BYTES;
+use model::{
+    Answer, Call, Card, MAX_TRANSFER_BYTES, MAX_TRIPLES, Store, Time, Triple, UNIT_BYTES, Volume,
+};
 
 use crate::generate::Profile;
 use crate::library::Library;
 use crate::lists::{different_units, lengths, single_read};
+use crate::ranges::{data_stretches, listed, stretches};
 use crate::walk::Walk;
 use crate::writes::single_writes;
 
@@ -58,6 +62,16 @@ impl Plain {
         buffer[..count as usize].copy_from_slice(&self.bytes(offset, count));
         count
     }
+
+    /// The units into which bytes were written. They alone have a slot: what was
+    /// not written stays a hole, however far the file grows.
+    fn units(&self) -> BTreeSet<u64> {
+        let units = |(offset, written): &(u64, Vec<u8>)| {
+            let last = offset + written.len() as u64 - 1;
+            offset / UNIT_BYTES..=last / UNIT_BYTES
+        };
+        self.writes.iter().flat_map(units).collect()
+    }
 }
 
 /// A call that was not refused. Of a batch the plain arrays are told how many
@@ -93,7 +107,11 @@ fn step(files: &mut BTreeMap<u64, Plain>, call: &Call, done: u64) {
                 step(files, write, 0);
             }
         }
-        Call::Read { .. } | Call::ReadMany { .. } | Call::Settle | Call::Fill => {}
+        Call::Read { .. }
+        | Call::ReadMany { .. }
+        | Call::DataStretches { .. }
+        | Call::Settle
+        | Call::Fill => {}
     }
 }
 
@@ -138,12 +156,13 @@ fn blocks_add_up(store: &Store, reserved: u64) -> bool {
 }
 
 /// The calls of a history through the library: every accepted read, and many
-/// in one call, have the plain array's count and bytes, a batch has number 0
-/// where all of its writes were done and there alone, every block is in one
-/// place, every card's count, size and times are right, and no number comes
-/// that demand 3 shuts out. At the end every byte that was written is read
-/// again, by single reads and by many in one call. Calls that the library does
-/// not have are the model's. Gives the number of its calls.
+/// in one call, have the plain array's count and bytes, a list of stretches has
+/// the units that were written, a batch has number 0 where all of its writes were
+/// done and there alone, every block is in one place, every card's count, size and
+/// times are right, and no number comes that demand 3 shuts out. At the end every
+/// byte that was written is read again, by single reads and by many in one call,
+/// and the stretches of every file are listed. Calls that the library does not
+/// have are the model's. Gives the number of its calls.
 pub fn demand_3(library: &dyn Library, seed: u64, number: u64) -> u64 {
     let mut walk = Walk::with_lists(seed, number);
     if walk.history.profile == Profile::Groups {
@@ -178,23 +197,25 @@ pub fn demand_3(library: &dyn Library, seed: u64, number: u64) -> u64 {
             let all = answer.count == Triple::all(list).count() as u64;
             assert_eq!(answer.number == 0, all, "{what}: 0 if all were done");
         }
-        read_is_plain(&files, &call, &answer, &what);
+        answer_is_plain(&files, &call, &answer, &what);
         assert!(blocks_add_up(&walk.store, reserved_by_fresh), "{what}");
         assert!(cards_agree(&walk.store, &files), "{what}: the cards part");
     }
-    for call in reads_of_all(&files) {
+    for call in reads_of_all(&files).into_iter().chain(lists_of_all(&files)) {
         let answer = ask(&mut walk.store, &call);
         let what = format!("seed {seed} history {number}, read again");
         assert_eq!(answer.number, 0, "{what}");
-        read_is_plain(&files, &call, &answer, &what);
+        answer_is_plain(&files, &call, &answer, &what);
     }
     calls
 }
 
 /// An accepted read has the plain array's count and bytes, and the rest of its
 /// buffer is as it was. Of many in one call each has its piece of the buffer,
-/// and the count is the number of different units.
-fn read_is_plain(files: &BTreeMap<u64, Plain>, call: &Call, answer: &Answer, what: &str) {
+/// and the count is the number of different units. A list of stretches has the
+/// units of its range into which bytes were written and no other, so that every
+/// byte in no stretch is a zero, and none is behind the file's end.
+fn answer_is_plain(files: &BTreeMap<u64, Plain>, call: &Call, answer: &Answer, what: &str) {
     let mut expected = call.blank_output();
     let count = match call {
         Call::Read { object, offset, .. } => files[object].read(*offset, &mut expected),
@@ -206,6 +227,18 @@ fn read_is_plain(files: &BTreeMap<u64, Plain>, call: &Call, answer: &Answer, wha
                 let count = files[&triple.object].read(triple.offset, piece);
                 (triple.object, triple.offset, count)
             }))
+        }
+        Call::DataStretches {
+            object,
+            first,
+            units,
+            ..
+        } => {
+            let written = files[object].units();
+            let within = written.range(first..&(first + units)).copied().collect();
+            let stretches = stretches(&within);
+            expected = listed(expected, &stretches);
+            stretches.len() as u64
         }
         _ => return,
     };
@@ -241,4 +274,12 @@ fn reads_of_all(files: &BTreeMap<u64, Plain>) -> Vec<Call> {
         length: lengths(reads) as usize,
     });
     single.chain(many).collect()
+}
+
+/// A list of the stretches of every file, with just the room that they take.
+fn lists_of_all(files: &BTreeMap<u64, Plain>) -> impl Iterator<Item = Call> {
+    files.iter().map(|(&object, file)| {
+        let room = stretches(&file.units()).len() * STRETCH_BYTES;
+        data_stretches(object, 0, u64::MAX, room)
+    })
 }

@@ -230,6 +230,18 @@ impl Writer {
                 }
                 self.time(*time);
             }
+            Call::DataStretches {
+                object,
+                first,
+                units,
+                length,
+            } => {
+                self.u8(9);
+                for number in [object, first, units] {
+                    self.u64(*number);
+                }
+                self.u32(*length);
+            }
         }
         self.u32(case.answer.number as usize);
         self.u64(case.answer.count);
@@ -375,6 +387,12 @@ impl<'a> Reader<'a> {
                     time: self.time(),
                 }
             }
+            9 => Call::DataStretches {
+                object: self.u64(),
+                first: self.u64(),
+                units: self.u64(),
+                length: self.u32(),
+            },
             kind => panic!("a call of kind {kind}"),
         }
     }

@@ -9,6 +9,7 @@ use oracle::{OracleAnswer, Outcome};
 use crate::differences::Difference;
 use crate::generate::Profile;
 use crate::lists::by_single_reads;
+use crate::ranges::by_reads_of_units;
 use crate::walk::{Event, Walk};
 use crate::writes::{Compared, by_single_writes};
 
@@ -33,6 +34,8 @@ pub struct Tally {
     pub many: u64,
     /// Batches of writes, held against single writes.
     pub batches: u64,
+    /// Lists of stretches, held against reads of single units.
+    pub stretches: u64,
     /// Compared calls by name and the document's number.
     pub answers: BTreeMap<(&'static str, u32), u64>,
     pub listed: BTreeMap<Difference, u64>,
@@ -117,7 +120,8 @@ pub struct Judged {
 
 /// What the other side makes of a call that the document answers so: of many
 /// reads in one call its single reads in list order, of a batch its single
-/// writes. `None` where the document alone has an answer.
+/// writes, of a list of stretches its reads of single units. `None` where the
+/// document alone has an answer.
 fn ask(other: Other<'_>, store: &mut Store, call: &Call, answer: &Answer) -> Option<Compared> {
     let told = match call {
         Call::ReadMany { .. } if matches!(answer.number, 1 | 2 | 17) => None,
@@ -128,6 +132,8 @@ fn ask(other: Other<'_>, store: &mut Store, call: &Call, answer: &Answer) -> Opt
             let by_write = |write: &Call| past_refusals_1_and_2(other, store, write);
             return (!answer.refused).then(|| by_single_writes(call, answer, by_write));
         }
+        Call::DataStretches { .. } if matches!(answer.number, 1 | 2) => None,
+        Call::DataStretches { .. } => by_reads_of_units(store, call, answer, other),
         call => call.compared().then(|| other(store, call)),
     };
     told.map(|told| Compared {
@@ -178,7 +184,7 @@ pub fn compare_history(
     watched_history(seed, number, &|_, _| {}, other, tally)
 }
 
-/// The same, where `watch` is shown each call, of all nine, with the store
+/// The same, where `watch` is shown each call, of all ten, with the store
 /// before it.
 pub fn watched_history(
     seed: u64,
@@ -209,7 +215,10 @@ pub fn watched_history(
         // A place that a damaged store shares may be kept and retired at
         // once; every later call is then refused by 2, which the Rust does
         // not have. Lists, which stand beside the history, do not end it.
-        let listed = matches!(call, Call::ReadMany { .. } | Call::WriteBatch { .. });
+        let listed = matches!(
+            call,
+            Call::ReadMany { .. } | Call::WriteBatch { .. } | Call::DataStretches { .. }
+        );
         if answer.number == 2 && !listed {
             break;
         }
@@ -220,6 +229,7 @@ pub fn watched_history(
         match call {
             Call::ReadMany { .. } => tally.many += 1,
             Call::WriteBatch { .. } => tally.batches += 1,
+            Call::DataStretches { .. } => tally.stretches += 1,
             _ => tally.compared += 1,
         }
         *tally
@@ -285,13 +295,20 @@ impl Tally {
         let mut text = String::new();
         let _ = writeln!(
             text,
-            "{} histories, {} calls, {} of them compared, {} of many reads by single reads, {} batches by single writes",
-            self.histories, self.calls, self.compared, self.many, self.batches
+            "{} histories, {} calls, {} of them compared, {} of many reads by single reads, {} batches by single writes, {} lists of stretches by reads of single units",
+            self.histories, self.calls, self.compared, self.many, self.batches, self.stretches
         );
         let _ = writeln!(text, "profiles: {:?}", self.profiles);
         let _ = writeln!(text, "answers by the document's number:");
-        for name in ["write", "grow", "read", "read_many", "write_batch"] {
-            let mut line = format!("  {name:11}");
+        for name in [
+            "write",
+            "grow",
+            "read",
+            "read_many",
+            "write_batch",
+            "data_stretches",
+        ] {
+            let mut line = format!("  {name:14}");
             for ((_, number), count) in self.answers.iter().filter(|((n, _), _)| *n == name) {
                 let _ = write!(line, "  {number}: {count}");
             }

@@ -4,7 +4,9 @@ use std::fmt::Write;
 use std::time::{Duration, Instant};
 
 use model::records::TRIPLE_BYTES;
-use model::{BLOCK_BYTES, Call, Extent, Store, Time, Triple, Volume, passes_refusals_1_and_2};
+use model::{
+    BLOCK_BYTES, Call, Extent, Group, Store, Time, Triple, Volume, passes_refusals_1_and_2,
+};
 
 use crate::lists::lengths;
 
@@ -111,6 +113,31 @@ fn simpler_calls(call: &Call) -> Vec<Call> {
             simpler.extend(lists.map(|(list, length)| batch(list, bytes[..length].to_vec())));
             if bytes.iter().any(|&byte| byte != 1) {
                 simpler.push(batch(list.clone(), vec![1; bytes.len()]));
+            }
+        }
+        Call::DataStretches {
+            object,
+            first,
+            units,
+            length,
+        } => {
+            let mut with = |first: u64, units: u64, length: usize| {
+                simpler.push(Call::DataStretches {
+                    object: *object,
+                    first,
+                    units,
+                    length,
+                });
+            };
+            for shorter in shorter(*units) {
+                with(*first, shorter, *length);
+                with(first.saturating_add(units - shorter), shorter, *length);
+            }
+            if *first > 0 {
+                with(0, *units, *length);
+            }
+            for shorter in shorter(*length as u64) {
+                with(*first, *units, shorter as usize);
             }
         }
         _ => {}
@@ -223,6 +250,14 @@ fn simpler_stores(store: &Store) -> impl Iterator<Item = Simpler> {
             v.extents.remove(at);
         }));
     }
+    // The first or the second half of a group's slots.
+    for at in 0..volume.groups.len() {
+        for first in [true, false] {
+            ways.push(of_volume(move |v| {
+                half_of_the_slots(&mut v.groups[at], first)
+            }));
+        }
+    }
     for (at, card) in volume.cards.iter().enumerate() {
         let of_card = |extent: &&Extent| extent.object == card.object;
         let count = volume.extents.iter().filter(of_card).map(|e| e.count).sum();
@@ -243,6 +278,16 @@ fn simpler_stores(store: &Store) -> impl Iterator<Item = Simpler> {
         stretch /= 4;
     }
     ways.into_iter()
+}
+
+fn half_of_the_slots(group: &mut Group, first: bool) {
+    let present: Vec<usize> = (0..group.slots.len())
+        .filter(|n| group.slots[*n].is_some())
+        .collect();
+    let (head, tail) = present.split_at(present.len() / 2);
+    for &slot in if first { tail } else { head } {
+        group.slots[slot] = None;
+    }
 }
 
 fn without_last_free_blocks(store: &Store) -> Store {

@@ -113,6 +113,10 @@ fn what_a_library_does_wrong_is_told() {
             "a card put before others leaves their creation times in their places",
             1,
         ),
+        ("a stretch broken at a group's end", 1),
+        ("a slot past the end listed", 1),
+        ("pairs written before 19 is known", 1),
+        ("a stretch reaches before the range", 1),
         ("image of no block", 0),
     ] {
         let wrong = library(Wrong::named(name).expect("listed"));
@@ -191,7 +195,10 @@ fn a_library_without_some_calls_is_judged_on_the_others() {
     struct Four(Wrong);
     impl Library for Four {
         fn supports(&self, call: &Call) -> bool {
-            let listed = matches!(call, Call::ReadMany { .. } | Call::WriteBatch { .. });
+            let listed = matches!(
+                call,
+                Call::ReadMany { .. } | Call::WriteBatch { .. } | Call::DataStretches { .. }
+            );
             !call.compared() && !listed
         }
         fn lent(&self, _: Lent<'_>, _: Request<'_>) -> Told {

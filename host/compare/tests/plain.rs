@@ -55,6 +55,26 @@ fn batches_that_are_wrong_are_found() {
     ]);
 }
 
+/// And what is wrong with a list of stretches: the units that were written are
+/// those with a slot.
+#[test]
+fn stretches_that_are_wrong_are_found() {
+    all_found(&[
+        "a stretch broken at a group's end",
+        "a stretch for every unit",
+        "a gap of one unit taken into a stretch",
+        "a stretch reaches before the range",
+        "a stretch reaches behind the range",
+        "the unit behind the range listed",
+        "a file's last unit left out where it is not whole",
+        "the slots of every file listed",
+        "the slots of the file's first group alone listed",
+        "a stretch's end for its number of units",
+        "a list of stretches answers their units",
+        "the output behind the pairs cleared",
+    ]);
+}
+
 /// And what is wrong with the times of a card.
 #[test]
 fn times_that_are_wrong_are_found() {

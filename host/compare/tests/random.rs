@@ -127,6 +127,31 @@ fn batches_are_single_writes() {
     }
 }
 
+/// Lists of stretches at the edges of their rules, against the reads of single
+/// units of the model, of the Rust where it is there, and of models whose reads are
+/// wrong.
+#[test]
+fn stretches_are_units_that_a_read_finds_a_slot_of() {
+    let parting = |other: &dyn Fn(&mut Store, &Call) -> OracleAnswer| {
+        let mut edges = edges();
+        edges.retain(|edge| matches!(edge.call, Call::DataStretches { .. }));
+        assert!(edges.len() > 400, "{} calls", edges.len());
+        edges.retain(|edge| parts(&judge(&edge.store, &edge.call, other)));
+        edges.len()
+    };
+    assert_eq!(parting(&in_its_place(Wrong::NONE)), 0);
+    for name in [
+        "a block that is not there read as zeros",
+        "a group's number read as 32 bits",
+    ] {
+        let wrong = Wrong::named(name).expect("listed");
+        assert!(parting(&in_its_place(wrong)) > 0, "{name}");
+    }
+    if !oracle::skipped("lists of stretches by reads of the Rust") {
+        assert_eq!(parting(&oracle::run), 0);
+    }
+}
+
 /// Document 01's hollow builds and slips. A fill is not compared with the
 /// Rust.
 #[test]

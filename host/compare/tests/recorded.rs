@@ -8,6 +8,7 @@ use std::path::PathBuf;
 use compare::broken::sound_store;
 use compare::differences::Difference;
 use compare::lists::read_many;
+use compare::ranges::data_stretches;
 use compare::recorded::{Case, Reader, Source, Writer};
 use compare::run::{Verdict, judge};
 use compare::sample;
@@ -108,6 +109,9 @@ fn lists_are_written_and_read_again() {
         write_batch(&[(8, 0, 10)]),
         batch_of(&[(7, 0, 10)], 9, TIME),
         write_batch(&[]),
+        data_stretches(7, 0, u64::MAX, 20),
+        data_stretches(8, 1, 2, 0),
+        data_stretches(7, u64::MAX, 1, 3),
     ]
     .map(|call| {
         let mut after = store.clone();
@@ -132,7 +136,10 @@ fn lists_are_written_and_read_again() {
             (3, false),
             (3, false),
             (18, true),
-            (0, false)
+            (0, false),
+            (0, false),
+            (3, true),
+            (19, true)
         ]
     );
     let mut writer = Writer::default();

@@ -59,6 +59,14 @@ pub enum Call {
         bytes: Vec<u8>,
         time: Time,
     },
+    /// The stretches of data among `units` units from `first` on, into a buffer
+    /// of `length` bytes, each [`READ_FILL`].
+    DataStretches {
+        object: u64,
+        first: u64,
+        units: u64,
+        length: usize,
+    },
     Settle,
     Fill,
 }
@@ -73,6 +81,7 @@ impl Call {
             Self::Read { .. } => "read",
             Self::ReadMany { .. } => "read_many",
             Self::WriteBatch { .. } => "write_batch",
+            Self::DataStretches { .. } => "data_stretches",
             Self::Settle => "settle",
             Self::Fill => "fill",
         }
@@ -89,9 +98,9 @@ impl Call {
     /// The lent output buffer as it is before the call.
     pub fn blank_output(&self) -> Vec<u8> {
         match self {
-            Self::Read { length, .. } | Self::ReadMany { length, .. } => {
-                vec![READ_FILL; *length]
-            }
+            Self::Read { length, .. }
+            | Self::ReadMany { length, .. }
+            | Self::DataStretches { length, .. } => vec![READ_FILL; *length],
             _ => Vec::new(),
         }
     }

@@ -12,7 +12,7 @@ pub mod rules;
 pub mod store;
 
 pub use call::{Answer, Call, READ_FILL, Time};
-pub use records::{Card, Extent, Group, Triple, Volume};
+pub use records::{Card, Extent, Group, Stretch, Triple, Volume};
 pub use rules::{passes_refusals_1_and_2, run};
 pub use store::Store;
 

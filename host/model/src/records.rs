@@ -1,6 +1,6 @@
 //! The records of document 01: head, card, extent, group and block maps, and
-//! the volume that they make up; of document 02 the card's creation time and the
-//! triples of its lists.
+//! the volume that they make up; of document 02 the card's creation time, the
+//! triples of its lists and the pairs that a list of stretches is made of.
 
 use std::ops::Range;
 
@@ -17,6 +17,7 @@ pub const EXTENT_BYTES: usize = 33;
 pub const GROUP_BYTES: usize = 1_073;
 pub const KEY_BYTES: usize = 17;
 pub const TRIPLE_BYTES: usize = 24;
+pub const STRETCH_BYTES: usize = 16;
 
 /// The `width` bits at `at`, the most significant first.
 pub fn bits(bytes: &[u8], at: usize, width: usize) -> u128 {
@@ -262,6 +263,30 @@ impl Triple {
     /// The list of these triples.
     pub fn list(triples: &[Self]) -> Vec<u8> {
         triples.iter().flat_map(Self::encode).collect()
+    }
+}
+
+/// Consecutive units of a file that have a slot: W-206's "pairs of 64-bit
+/// numbers, first unit and number of units".
+#[derive(Clone, Copy, Debug, PartialEq, Eq)]
+pub struct Stretch {
+    pub first: u64,
+    pub units: u64,
+}
+
+impl Stretch {
+    pub fn decode(bytes: &[u8]) -> Self {
+        Self {
+            first: le64(&bytes[..8]),
+            units: le64(&bytes[8..]),
+        }
+    }
+
+    pub fn encode(&self) -> [u8; STRETCH_BYTES] {
+        let mut bytes = [0; STRETCH_BYTES];
+        bytes[..8].copy_from_slice(&self.first.to_le_bytes());
+        bytes[8..].copy_from_slice(&self.units.to_le_bytes());
+        bytes
     }
 }
 
@@ -514,5 +539,16 @@ mod tests {
         assert_eq!((bytes[8], bytes[16], bytes[17 + 1]), (4, 1, 2));
         assert_eq!(bytes[49 + 36..49 + 40], [1, 2, 3, 4]);
         assert_eq!(Group::decode(&bytes), group);
+    }
+
+    #[test]
+    fn a_stretch_is_two_numbers_least_significant_byte_first() {
+        let stretch = Stretch {
+            first: 0x0807_0605_0403_0201,
+            units: 0x100f_0e0d_0c0b_0a09,
+        };
+        let ascending: [u8; STRETCH_BYTES] = std::array::from_fn(|at| at as u8 + 1);
+        assert_eq!(stretch.encode(), ascending);
+        assert_eq!(Stretch::decode(&ascending), stretch);
     }
 }

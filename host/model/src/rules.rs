@@ -8,7 +8,7 @@ use crate::call::{Answer, Call, Time};
 use crate::crc32c::unit_checksum;
 use crate::records::{
     CARD_BYTES, CARD_SPARE, Card, EXTENT_BYTES, Extent, GROUP_BYTES, Group, HEAD_BYTES, Head,
-    KEY_BYTES, TRIPLE_BYTES, Triple, Volume, bits, map_bit,
+    KEY_BYTES, STRETCH_BYTES, Stretch, TRIPLE_BYTES, Triple, Volume, bits, map_bit,
 };
 use crate::store::{Store, map_bytes};
 use crate::{
@@ -64,6 +64,12 @@ fn answer(store: &mut Store, call: &Call, output: &mut [u8]) -> Result<Told, Ref
         Call::Read { object, offset, .. } => read(store, *object, *offset, output),
         Call::ReadMany { list, .. } => read_many(store, list, output),
         Call::WriteBatch { list, bytes, time } => return write_batch(store, list, bytes, *time),
+        Call::DataStretches {
+            object,
+            first,
+            units,
+            ..
+        } => data_stretches(store, *object, *first, *units, output),
         Call::Settle => Ok(settle(store)),
         Call::Fill => Ok(fill(store)),
     };
@@ -428,6 +434,65 @@ fn writes_are_bad(list: &[u8], bytes: usize) -> bool {
     list_is_bad(list)
         || lengths().any(|length| length > MAX_TRANSFER_BYTES as u128)
         || lengths().sum::<u128>() != bytes as u128
+}
+
+/// W-206: "A call lists, for one file and a range of units, each maximal stretch
+/// of consecutive units that have a slot". "The answer is the number of pairs; the
+/// output behind them is unchanged."
+fn data_stretches(
+    store: &Store,
+    object: u64,
+    first: u64,
+    units: u64,
+    output: &mut [u8],
+) -> Result<u64, Refusal> {
+    let volume = Volume::decode(store);
+    let card = *volume.card(object).ok_or(3u32)?;
+    // "19 when the range's first unit plus length passes
+    // 18,446,744,073,709,551,615". They are added as numbers without bound.
+    let end = u128::from(first) + u128::from(units);
+    refuse_if(end > u64::MAX.into(), 19)?;
+    let stretches = stretches_of(&data_units(&volume, &card, first.into(), end));
+    // "or the output has no place for all pairs".
+    refuse_if(stretches.len() * STRETCH_BYTES > output.len(), 19)?;
+    for (place, stretch) in output.chunks_exact_mut(STRETCH_BYTES).zip(&stretches) {
+        place.copy_from_slice(&stretch.encode());
+    }
+    Ok(stretches.len() as u64)
+}
+
+/// "Every unit of the range with a slot that starts before the file's end",
+/// ascending. It is the slots that are gone through, since a range has up to
+/// 2^64 - 1 units; and all is computed in numbers without bound, since a damaged
+/// book has groups of any number.
+fn data_units(volume: &Volume, card: &Card, first: u128, end: u128) -> Vec<u64> {
+    let mut units = Vec::new();
+    for group in volume.groups.iter().filter(|g| g.object == card.object) {
+        for (n, slot) in group.slots.iter().enumerate() {
+            let unit = u128::from(group.number) * u128::from(UNITS_PER_GROUP) + n as u128;
+            let in_range = first <= unit && unit < end;
+            let before_the_end = unit * u128::from(UNIT_BYTES) < card.size.into();
+            if slot.is_some() && in_range && before_the_end {
+                units.push(unit as u64);
+            }
+        }
+    }
+    units
+}
+
+/// "each maximal stretch of consecutive units", of units that ascend.
+fn stretches_of(units: &[u64]) -> Vec<Stretch> {
+    let mut stretches: Vec<Stretch> = Vec::new();
+    for &unit in units {
+        match stretches.last_mut() {
+            Some(last) if last.first + last.units == unit => last.units += 1,
+            _ => stretches.push(Stretch {
+                first: unit,
+                units: 1,
+            }),
+        }
+    }
+    stretches
 }
 
 /// "settle, which clears both bits of every retired block and answers how

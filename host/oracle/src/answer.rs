@@ -29,8 +29,8 @@ pub enum Outcome {
     Shrinks,
     /// Arithmetic that overflowed, or another panic.
     Panicked(String),
-    /// Enter, fresh, settle, fill, many reads in one call and batches of
-    /// writes have no counterpart.
+    /// Enter, fresh, settle, fill, many reads in one call, batches of writes and
+    /// lists of stretches have no counterpart.
     NoCounterpart,
     /// The published source is not there.
     Absent,

@@ -194,6 +194,28 @@ unsafe extern "C" {
         seconds: u64,
         nanoseconds: u64,
     ) -> Answer;
+
+    fn sangueko_data_stretches(
+        image: *const u8,
+        image_len: usize,
+        head: *const u8,
+        head_len: usize,
+        cards: *const u8,
+        cards_len: usize,
+        extents: *const u8,
+        extents_len: usize,
+        groups: *const u8,
+        groups_len: usize,
+        used: *const u8,
+        used_len: usize,
+        retired: *const u8,
+        retired_len: usize,
+        object: u64,
+        first: u64,
+        units: u64,
+        out: *mut u8,
+        out_len: usize,
+    ) -> Answer;
 }
 
 // SAFETY of each: the pointers and lengths are those of slices that live
@@ -439,6 +461,38 @@ pub fn write_batch(
             bytes.len(),
             seconds,
             nanoseconds,
+        )
+    })
+}
+
+pub fn data_stretches(
+    store: &Store<'_>,
+    object: u64,
+    first: u64,
+    units: u64,
+    out: &mut [u8],
+) -> Result<u64, Refusal> {
+    result(unsafe {
+        sangueko_data_stretches(
+            store.image.as_ptr(),
+            store.image.len(),
+            store.head.as_ptr(),
+            store.head.len(),
+            store.cards.as_ptr(),
+            store.cards.len(),
+            store.extents.as_ptr(),
+            store.extents.len(),
+            store.groups.as_ptr(),
+            store.groups.len(),
+            store.used.as_ptr(),
+            store.used.len(),
+            store.retired.as_ptr(),
+            store.retired.len(),
+            object,
+            first,
+            units,
+            out.as_mut_ptr(),
+            out.len(),
         )
     })
 }

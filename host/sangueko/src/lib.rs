@@ -50,12 +50,14 @@ mod ffi;
 mod range;
 mod refusal;
 mod store;
+mod stretch;
 
 pub use batched::Batched;
 pub use buffers::{Places, StoreBuf};
 pub use range::Range;
 pub use refusal::Refusal;
 pub use store::Store;
+pub use stretch::Stretch;
 
 /// Bytes of a block.
 pub const BLOCK_BYTES: usize = 4_096;
@@ -83,6 +85,10 @@ pub const MOST_TRANSFER: usize = 1_048_576;
 pub const RANGE_BYTES: usize = 24;
 /// Ranges of a list at most.
 pub const MOST_RANGES: usize = 64;
+/// Bytes of a unit of a file. Each that holds data has a checksum.
+pub const UNIT_BYTES: u64 = 65_536;
+/// Bytes of a [`Stretch`] in the output of [`Store::data_stretches`].
+pub const STRETCH_BYTES: usize = 16;
 /// Stack that a call takes at most.
 pub const STACK_BYTES: usize = 262_144;
 

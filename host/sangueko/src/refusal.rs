@@ -35,11 +35,12 @@ pub enum Refusal {
     NoExtentPlace = 16,
     BadReads = 17,
     BadBatch = 18,
+    BadRange = 19,
 }
 
 impl Refusal {
     /// Every refusal, in the order of their numbers.
-    pub const ALL: [Self; 18] = [
+    pub const ALL: [Self; 19] = [
         Self::WrongLength,
         Self::BrokenRule,
         Self::NoCard,
@@ -58,6 +59,7 @@ impl Refusal {
         Self::NoExtentPlace,
         Self::BadReads,
         Self::BadBatch,
+        Self::BadRange,
     ];
 
     /// The number in document 01 or 02.
@@ -138,6 +140,11 @@ impl fmt::Display for Refusal {
                 "the list of writes is not whole ranges, has too many or too long ones, or their \
                  lengths do not add up to the bytes: give at most 64 ranges of 24 bytes, of at \
                  most 1,048,576 bytes each, and just the bytes of all of them"
+            }
+            Self::BadRange => {
+                "the range's first unit and number of units add up to more than \
+                 18,446,744,073,709,551,615, or the output has no place for all stretches: give a \
+                 smaller range, or 16 bytes of output for each stretch"
             }
         })
     }

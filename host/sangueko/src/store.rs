@@ -272,6 +272,63 @@ impl Store<'_> {
         ffi::read_many(self, list, out)
     }
 
+    /// Tells which of `units` units of the file, from unit `first` on, hold data:
+    /// which have a checksum and begin before the file's end. A unit is
+    /// [`UNIT_BYTES`](crate::UNIT_BYTES) of a file. They are given as stretches,
+    /// ascending: each is all units with data that follow one another within the
+    /// range. The range may be any, as from 0 with `u64::MAX` units for the whole
+    /// file; what it costs depends on the file's groups, not on the range.
+    ///
+    /// A unit that is in no stretch reads as zeros, or is past the end; or it has
+    /// blocks but no checksum, which no list of calls leads to, and a read of it
+    /// is refused by [`NoChecksum`](Refusal::NoChecksum). No unit is read here:
+    /// its bytes are not compared with its checksum.
+    ///
+    /// The stretches stand at the head of `out`, each of
+    /// [`STRETCH_BYTES`](crate::STRETCH_BYTES), where
+    /// [`Stretch::all`](crate::Stretch::all) finds them; the rest of `out` stays as
+    /// it is. Answers how many they are: at most half of `units`, rounded up, and at
+    /// most 128 for each group of the file.
+    ///
+    /// # Errors
+    ///
+    /// In this order: [`WrongLength`](Refusal::WrongLength),
+    /// [`BrokenRule`](Refusal::BrokenRule), [`NoCard`](Refusal::NoCard),
+    /// [`BadRange`](Refusal::BadRange): `first` and `units` add up to more than
+    /// 2^64 - 1, or `out` has no place for all stretches.
+    ///
+    /// ```
+    /// # use sangueko::{Places, Refusal, STRETCH_BYTES, Stretch, StoreBuf, UNIT_BYTES};
+    /// # let mut buffers = StoreBuf::new(64, Places { cards: 1, extents: 8, groups: 2 })?;
+    /// # let mut store = buffers.lend();
+    /// # store.fresh(&[0; 16], 1)?;
+    /// store.enter(7, 1_700_000_000, 0)?;
+    /// store.write(7, 3 * UNIT_BYTES, b"unit 3", 1_700_000_001, 0)?;
+    /// store.write(7, 256 * UNIT_BYTES - 3, b"255 and 256", 1_700_000_002, 0)?;
+    /// let mut out = [0; 3 * STRETCH_BYTES];
+    /// assert_eq!(store.data_stretches(7, 0, u64::MAX, &mut out), Ok(2));
+    /// let found: Vec<Stretch> = Stretch::all(&out, 2).collect();
+    /// assert_eq!(found, [Stretch { first: 3, units: 1 }, Stretch { first: 255, units: 2 }]);
+    ///
+    /// // From unit 256 on the stretch is cut; of units 4 to 200 none holds data.
+    /// assert_eq!(store.data_stretches(7, 256, 745, &mut out), Ok(1));
+    /// assert!(Stretch::all(&out, 1).eq([Stretch { first: 256, units: 1 }]));
+    /// assert_eq!(store.data_stretches(7, 4, 197, &mut []), Ok(0));
+    ///
+    /// assert_eq!(store.data_stretches(7, 0, u64::MAX, &mut out[..31]), Err(Refusal::BadRange));
+    /// assert_eq!(store.data_stretches(7, 1, u64::MAX, &mut out), Err(Refusal::BadRange));
+    /// # Ok::<(), Refusal>(())
+    /// ```
+    pub fn data_stretches(
+        &self,
+        object: u64,
+        first: u64,
+        units: u64,
+        out: &mut [u8],
+    ) -> Result<u64, Refusal> {
+        ffi::data_stretches(self, object, first, units, out)
+    }
+
     /// Makes up to [`MOST_RANGES`](crate::MOST_RANGES) writes in one call, into
     /// one file or several, each as [`write`](Store::write) would and all with
     /// the one time, which is that of the files' last change; the times of their

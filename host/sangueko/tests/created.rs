@@ -74,7 +74,7 @@ fn with_file() -> StoreBuf {
 type Call = fn(&mut Store<'_>) -> Option<Refusal>;
 
 /// The calls that read the cards, all but fresh.
-const CALLS: [(&str, Call); 8] = [
+const CALLS: [(&str, Call); 9] = [
     ("enter", |store| store.enter(9, 0, 0).err()),
     ("write", |store| store.write(7, 0, b"b", 0, 0).err()),
     ("grow", |store| store.grow(7, 100, 0, 0).err()),
@@ -82,6 +82,9 @@ const CALLS: [(&str, Call); 8] = [
     ("read_many", |store| store.read_many(&[], &mut []).err()),
     ("write_batch", |store| {
         store.write_batch(&[], &[], 0, 0).err()
+    }),
+    ("data_stretches", |store| {
+        store.data_stretches(7, 0, u64::MAX, &mut [0; 16]).err()
     }),
     ("settle", |store| store.settle().err()),
     ("fill", |store| store.fill().err()),

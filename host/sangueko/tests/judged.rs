@@ -11,6 +11,8 @@ use compare::batch::shared_block;
 use compare::gate::judge;
 use compare::library::Library;
 use compare::lists::read_many;
+use compare::ranges::data_stretches;
+use compare::stretches::slotted;
 use compare::writes::write_batch;
 use model::{Answer, Call};
 
@@ -34,7 +36,7 @@ fn the_library_answers_as_the_model() {
 /// Every number that a call gives, all of which the gate meets. A grow does not
 /// give 15: the tail unit that it rewrites has its group. A batch gives those of a
 /// write, and 18.
-const NUMBERS: [(&str, &[u32]); 9] = [
+const NUMBERS: [(&str, &[u32]); 10] = [
     ("fresh", &[0, 1]),
     ("enter", &[0, 1, 2, 4, 7, 8]),
     ("write", &[0, 1, 2, 3, 5, 7, 9, 10, 11, 12, 13, 14, 15, 16]),
@@ -45,6 +47,7 @@ const NUMBERS: [(&str, &[u32]); 9] = [
         "write_batch",
         &[0, 1, 2, 3, 5, 7, 9, 10, 11, 12, 13, 14, 15, 16, 18],
     ),
+    ("data_stretches", &[0, 1, 2, 3, 19]),
     ("settle", &[0, 1, 2]),
     ("fill", &[0, 1, 2]),
 ];
@@ -108,6 +111,7 @@ fn each_call_runs_on_256_kib_of_stack() {
             length: 1 << 20,
         },
         most_reads(),
+        data_stretches(7, 0, u64::MAX, 32),
         Call::Settle,
         write_batch(&[(7, 77, 1 << 20), (7, 5 << 20, 70_000)]),
         Call::Settle,
@@ -145,6 +149,25 @@ fn the_most_units_of_a_list_are_counted() {
     let told = Archive.run(&mut store, &most_reads());
     assert_eq!((told.number, told.count), (0, 64 * 17));
     assert!(told.output.iter().all(|&byte| byte == 0));
+}
+
+/// The longest range ends at once: it is the groups that are gone through, of a file
+/// as long as one can be, and here there are as many stretches as slots allow.
+#[test]
+fn the_most_stretches_of_the_longest_range_are_listed() {
+    let every_other: Vec<u64> = (0..256).step_by(2).collect();
+    let groups: Vec<(u64, u64, &[u64])> = (0..1_000)
+        .map(|number| (7, number << 29, every_other.as_slice()))
+        .collect();
+    let store = slotted(&[(7, model::MAX_SIZE)], &groups);
+    for (length, answer) in [(128_000 * 16, (0, 128_000)), (128_000 * 16 - 1, (19, 0))] {
+        let call = data_stretches(7, 0, u64::MAX, length);
+        let told = Archive.run(&mut model::Store::clone(&store), &call);
+        assert_eq!((told.number, told.count), answer);
+        same("a thousand groups", &store, &call, |lent| {
+            Archive.run(lent, &call)
+        });
+    }
 }
 
 #[test]

@@ -6,19 +6,19 @@ use std::error::Error;
 use sangueko::Refusal;
 
 #[test]
-fn the_numbers_are_1_to_18() {
+fn the_numbers_are_1_to_19() {
     let numbers: Vec<u32> = Refusal::ALL.iter().map(|r| r.number()).collect();
-    assert_eq!(numbers, (1..=18).collect::<Vec<u32>>());
+    assert_eq!(numbers, (1..=19).collect::<Vec<u32>>());
     for refusal in Refusal::ALL {
         assert_eq!(Refusal::of(refusal.number()), Some(refusal));
     }
-    assert_eq!(Refusal::of(0).or(Refusal::of(19)), None);
+    assert_eq!(Refusal::of(0).or(Refusal::of(20)), None);
 }
 
 #[test]
 fn each_refusal_says_what_is_wrong_and_what_to_do() {
     let texts: BTreeSet<String> = Refusal::ALL.iter().map(Refusal::to_string).collect();
-    assert_eq!(texts.len(), 18);
+    assert_eq!(texts.len(), 19);
     for text in &texts {
         let (wrong, to_do) = text.split_once(": ").expect("two parts");
         assert!(!wrong.is_empty() && !to_do.is_empty(), "{text}");
@@ -69,6 +69,8 @@ fn the_header_has_the_same_sizes() {
         ("MOST_TRANSFER", sangueko::MOST_TRANSFER),
         ("RANGE_BYTES", sangueko::RANGE_BYTES),
         ("MOST_RANGES", sangueko::MOST_RANGES),
+        ("UNIT_BYTES", sangueko::UNIT_BYTES as usize),
+        ("STRETCH_BYTES", sangueko::STRETCH_BYTES),
         ("STACK_BYTES", sangueko::STACK_BYTES),
     ];
     let defined: Vec<&str> = HEADER
@@ -111,8 +113,8 @@ fn in_c(parameter: &str) -> String {
 fn the_header_has_the_same_calls() {
     let bound = functions(include_str!("../src/ffi.rs"), "    fn sangueko_");
     let listed = functions(HEADER, "struct sangueko_answer sangueko_");
-    assert_eq!(bound.len(), 9);
-    assert_eq!(listed.len(), 9);
+    assert_eq!(bound.len(), 10);
+    assert_eq!(listed.len(), 10);
     for (name, parameters) in bound {
         let parameters: Vec<String> = parameters.into_iter().map(in_c).collect();
         let same = listed.iter().find(|(listed, _)| *listed == name);

@@ -137,6 +137,12 @@ impl Given {
         number(self.word(at), what)
     }
 
+    /// A number that need not be there.
+    pub fn optional_number(&self, at: usize, what: &str) -> Result<Option<u64>, Failure> {
+        let word = self.optional_word(at);
+        word.map(|word| number(word, what)).transpose()
+    }
+
     pub fn switch(&self, name: &str) -> bool {
         self.switches.contains(&name)
     }

@@ -21,7 +21,7 @@ fn advice(refusal: Refusal) -> (&'static str, &'static str) {
              48, is no damaged one, but it is not converted: copy its files out with the tool that it was made with.",
         ),
         Refusal::NoCard => (
-            "write, batch, grow, read, flags",
+            "write, batch, grow, read, data, flags",
             "`sangueko show FOLDER` lists the files; `sangueko enter FOLDER OBJECT` makes a new one.",
         ),
         Refusal::CardExists => (
@@ -93,6 +93,12 @@ fn advice(refusal: Refusal) -> (&'static str, &'static str) {
             "Cut a longer list into several calls of 64 writes, and what has over 1,048,576 bytes into several writes; lend the \
              bytes of all writes of the call, one behind the other, and no others. `sangueko batch FOLDER LIST` makes the calls for any \
              number of writes.",
+        ),
+        Refusal::BadRange => (
+            "data, where FIRST and UNITS add up to more than 18,446,744,073,709,551,615; programs that call the library",
+            "Leave UNITS away to look at all units to the file's end. A program lends 16 bytes of output for each stretch: half as many \
+             as the range has units, rounded up, or 128 for each group of the file are always enough. `sangueko data FOLDER OBJECT` \
+             lends so many.",
         ),
     }
 }

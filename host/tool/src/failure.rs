@@ -74,7 +74,7 @@ impl Failure {
     pub fn code(&self) -> u8 {
         match self {
             Self::Usage(_) => USAGE,
-            // at most 18
+            // at most 19
             Self::Refused { refusal, .. } | Self::Unmade { refusal, .. } => refusal.number() as u8,
             Self::NoStore(_) => NO_STORE,
             Self::System { .. } | Self::Journal { .. } | Self::Closed => INPUT_OUTPUT,

@@ -15,6 +15,7 @@ sangueko: stores of files in folders, over the proved library
   sangueko fill FOLDER                   tell how full the store is
   sangueko show FOLDER                   tell what it holds, with a picture of the blocks
   sangueko check FOLDER                  test all of it, and say in words what is wrong
+  sangueko data FOLDER OBJECT            tell which parts of a file hold data, with a picture
   sangueko flags FOLDER OBJECT           count the bins of a file of flags
   sangueko explain N                     tell what refusal N means
 
@@ -22,7 +23,7 @@ sangueko: stores of files in folders, over the proved library
 cards, extents, groups, used and retired, the bytes of document 01's buffers; docs/TOOL.md
 says more.
 
-Exit codes: 0 done; 1 to 18 the refusal of that number, and nothing was changed by the
+Exit codes: 0 done; 1 to 19 the refusal of that number, and nothing was changed by the
 refused call, or by the refused write of a batch; 64 the command line is wrong; 66 the folder
 is not a store, or already one; 74 reading or writing failed; 75 another process has the
 folder (--no-wait).
@@ -32,7 +33,7 @@ Results go to standard output, errors to standard error.
 const NO_WAIT: &str = "--no-wait";
 const JSON: &str = "--json";
 
-pub const COMMANDS: [Spec; 12] = [
+pub const COMMANDS: [Spec; 13] = [
     Spec {
         name: "new",
         words: &["FOLDER"],
@@ -184,13 +185,31 @@ rule is broken, in which record and bytes, and which units are damaged. The exit
 ",
     },
     Spec {
+        name: "data",
+        words: &["FOLDER", "OBJECT", "[FIRST]", "[UNITS]"],
+        options: &["--svg", "--columns"],
+        switches: &[JSON, NO_WAIT, "--all"],
+        help: "\
+Tells which units of the file OBJECT, of 65,536 bytes each, hold data, as stretches of units that follow one another, and
+how many were never written: those read as zeros. FIRST is the first unit to look at (0), UNITS how many (all to the end). The
+bytes are not read, and not tested.
+
+  --svg FILE     the picture as an SVG file too, with every unit of up to 65,536
+  --columns N    width of the picture, 8 to 512 (64)
+  --all          all stretches, however many
+  --json         for scripts, with all stretches
+  --no-wait      do not wait for another process, end with 75
+",
+    },
+    Spec {
         name: "flags",
         words: &["FOLDER", "OBJECT"],
         options: &["--bins"],
         switches: &[JSON, NO_WAIT],
         help: "\
 For a file that holds a bit for each coverage bin: how many bins count (ones), how many are excluded (zeros), and how
-many of those lie in units that were never written. Bin n is bit n mod 8 of byte n div 8, from the low bit.
+many of those lie in units that were never written, which are not read. Bin n is bit n mod 8 of byte n div 8, from the low
+bit.
 
   --bins N       the first N bins (all bits of the file)
   --json         for scripts
@@ -203,7 +222,7 @@ many of those lie in units that were never written. Bin n is bit n mod 8 of byte
         options: &[],
         switches: &[],
         help: "\
-Tells what refusal N, 1 to 18, means and what can be done.
+Tells what refusal N, 1 to 19, means and what can be done.
 ",
     },
 ];

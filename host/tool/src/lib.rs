@@ -9,6 +9,7 @@ mod batch;
 pub mod buffer;
 mod check;
 mod crc32c;
+mod data;
 pub mod diagnose;
 pub mod disk;
 mod explain;
@@ -39,6 +40,7 @@ use std::process::ExitCode;
 use sangueko::{Places, Range};
 
 use crate::args::Given;
+use crate::data::Data;
 use crate::failure::Failure;
 use crate::folder::Folder;
 use crate::help::{COMMANDS, TOP};
@@ -91,6 +93,7 @@ fn run(arguments: &[OsString]) -> Result<(), Failure> {
         "fill" => fill(&given),
         "show" => show(&given),
         "check" => check(&given),
+        "data" => data(&given),
         "flags" => flags(&given),
         _ => explain(&given),
     }
@@ -258,7 +261,7 @@ fn fill(given: &Given) -> Result<(), Failure> {
     print(&format!("{}\n", measures.fullness(per_mille)))
 }
 
-fn show(given: &Given) -> Result<(), Failure> {
+fn view(given: &Given) -> Result<show::View, Failure> {
     let view = show::View {
         json: given.switch("--json"),
         colour: io::stdout().is_terminal()
@@ -269,13 +272,43 @@ fn show(given: &Given) -> Result<(), Failure> {
     if !(8..=512).contains(&view.columns) {
         return Err(Failure::Usage("--columns: from 8 to 512".into()));
     }
+    Ok(view)
+}
+
+/// Draws a picture where one is asked for.
+fn draw(given: &Given, svg: impl FnOnce() -> Result<String, Failure>) -> Result<(), Failure> {
+    let Some(path) = given.path_option("--svg") else {
+        return Ok(());
+    };
+    fs::write(&path, svg()?).map_err(|error| Failure::on("writing", &path, error))
+}
+
+fn show(given: &Given) -> Result<(), Failure> {
+    let view = view(given)?;
     let mut loaded = folder(given)?.load()?;
-    if let Some(path) = given.path_option("--svg") {
+    draw(given, || {
         let per_mille = loaded.tested("show")?;
-        let svg = svg::svg(&Records::of(&loaded.store), per_mille);
-        fs::write(&path, svg).map_err(|error| Failure::on("writing", &path, error))?;
-    }
+        Ok(svg::svg(&Records::of(&loaded.store), per_mille))
+    })?;
     show::show(&mut loaded, &view, &mut io::stdout().lock())
+}
+
+fn data(given: &Given) -> Result<(), Failure> {
+    let view = view(given)?;
+    let object = given.number(1, "OBJECT")?;
+    let first = given.optional_number(2, "FIRST")?.unwrap_or(0);
+    // to the end, wherever that is
+    let units = given.optional_number(3, "UNITS")?;
+    let units = units.unwrap_or(u64::MAX - first);
+    let mut loaded = folder(given)?.load()?;
+    let doing = format!("data of file {object}");
+    let data = Data::of(&mut loaded, &doing, object, (first, units))?;
+    draw(given, || Ok(svg::data(&data)))?;
+    if view.json {
+        return print(&format!("{}\n", data.json()));
+    }
+    let printed = data.text(&view, &mut io::stdout().lock());
+    printed.map_err(Failure::output)
 }
 
 fn check(given: &Given) -> Result<(), Failure> {

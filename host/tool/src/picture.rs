@@ -2,6 +2,7 @@
 //! stand for one block or, in a large store, for several.
 
 use std::fmt::Write;
+use std::ops::Range;
 
 use crate::records::{Records, map_bit};
 use crate::words::{counted, grouped};
@@ -125,12 +126,22 @@ impl Cell {
         let (whole, mixed) = self.kind.letters();
         if self.whole { whole } else { mixed }
     }
+
+    /// A mixed cell is greyer, so that it stands out from its neighbours.
+    pub fn colour(self) -> (u8, u8, u8) {
+        let (r, g, b) = self.kind.colour();
+        let shade = |part: u8| if self.whole { part } else { part / 2 + 64 };
+        (shade(r), shade(g), shade(b))
+    }
 }
 
+/// Blocks of the image, or units of a file.
 pub struct Picture {
     pub cells: Vec<Cell>,
-    /// Blocks of a cell.
-    pub scale: usize,
+    /// Their numbers.
+    pub range: Range<u64>,
+    /// How many a cell stands for.
+    pub scale: u64,
     pub columns: usize,
 }
 
@@ -138,23 +149,45 @@ pub struct Picture {
 const ROWS: usize = 32;
 
 impl Picture {
+    /// All blocks.
     pub fn of(kinds: &[Kind], columns: usize) -> Self {
-        let cells = columns.max(1) * ROWS;
-        let scale = kinds.len().div_ceil(cells).max(1).next_power_of_two();
+        let scale = Self::scale(kinds.len() as u64, Self::cells_of(columns));
         Self {
-            cells: kinds.chunks(scale).filter_map(Cell::of).collect(),
+            cells: kinds.chunks(scale as usize).filter_map(Cell::of).collect(),
+            range: 0..kinds.len() as u64,
             scale,
             columns: columns.max(1),
         }
     }
 
-    /// The rows, each with the number of its first block.
+    /// The cells of a screen of so many columns.
+    pub fn cells_of(columns: usize) -> usize {
+        columns.max(1) * ROWS
+    }
+
+    /// How many a cell has to stand for, so that so many fit into the cells.
+    pub fn scale(number: u64, cells: usize) -> u64 {
+        let each = number.div_ceil(cells as u64);
+        each.max(1).next_power_of_two()
+    }
+
+    /// The number of the first block or unit of a cell.
+    fn start(&self, cell: usize) -> u64 {
+        self.range.start + cell as u64 * self.scale
+    }
+
+    /// The numbers of those that cells stand for.
+    pub fn numbers(&self, cells: Range<usize>) -> Range<u64> {
+        self.start(cells.start)..self.start(cells.end).min(self.range.end)
+    }
+
+    /// The rows, each with the number of its first block or unit.
     pub fn rows(&self, colour: bool) -> String {
-        let last = self.cells.len().saturating_sub(1) * self.scale;
+        let last = self.start(self.cells.len().saturating_sub(1));
         let width = grouped(last).len();
         let mut text = String::new();
         for (row, cells) in self.cells.chunks(self.columns).enumerate() {
-            let first = grouped(row * self.columns * self.scale);
+            let first = grouped(self.start(row * self.columns));
             let _ = write!(text, "  {first:>width$}  ");
             for cell in cells {
                 text.push_str(&painted(*cell, colour));
@@ -165,15 +198,12 @@ impl Picture {
     }
 }
 
-/// The letter, on its colour where there is a terminal. A mixed cell is greyer, so
-/// that it stands out from its neighbours.
+/// The letter, on its colour where there is a terminal.
 pub fn painted(cell: Cell, colour: bool) -> String {
     if !colour {
         return cell.letter().into();
     }
-    let (r, g, b) = cell.kind.colour();
-    let shade = |part: u8| if cell.whole { part } else { part / 2 + 64 };
-    let (r, g, b) = (shade(r), shade(g), shade(b));
+    let (r, g, b) = cell.colour();
     // dark letters on light grounds
     let light = u32::from(r) + u32::from(g) + u32::from(b) > 380;
     let ink = if light { 16 } else { 231 };

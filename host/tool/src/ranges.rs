@@ -137,9 +137,14 @@ impl Asked for Ranges<'_> {
             return Ok(false);
         }
         let list: Vec<Range> = pieces.iter().map(|(_, piece)| *piece).collect();
-        held.resize(list.iter().map(|piece| piece.length as usize).sum(), 0);
-        let answer = loaded.store.lend().read_many(&list, held);
-        answer.map_err(|refusal| refused(loaded, &pieces, held, refusal))?;
+        read_call(loaded, &list, held).map_err(|(refusal, at)| {
+            let piece = at.and_then(|at| pieces.get(at));
+            let doing = piece.map_or("read of no range".into(), |(number, piece)| {
+                let read = reading(piece.object, piece.offset);
+                format!("{read} (range {number})")
+            });
+            loaded.refused(doing, refusal)
+        })?;
         self.calls += 1;
         Ok(true)
     }
@@ -156,7 +161,7 @@ fn cut_off(range: &Range, size: u64) -> Range {
 
 /// The range in parts that one read may take. An empty range is one: there may
 /// be no such file.
-fn pieces(range: Range) -> impl Iterator<Item = Range> {
+pub fn pieces(range: Range) -> impl Iterator<Item = Range> {
     let mut left = Some(range);
     iter::from_fn(move || {
         let rest = left.take()?;
@@ -170,19 +175,24 @@ fn pieces(range: Range) -> impl Iterator<Item = Range> {
     })
 }
 
-/// The failure, with the range that brought it about: the first whose read is
-/// refused by itself.
-fn refused(loaded: &mut Loaded, pieces: &[Piece], held: &mut [u8], refusal: Refusal) -> Failure {
-    let first = pieces.iter().find(|(_, piece)| {
-        let out = held.get_mut(..piece.length as usize).unwrap_or_default();
-        let read = loaded.store.lend().read(piece.object, piece.offset, out);
-        read.is_err()
-    });
-    let doing = first.map_or("read of no range".into(), |(number, piece)| {
-        let read = reading(piece.object, piece.offset);
-        format!("{read} (range {number})")
-    });
-    loaded.refused(doing, refusal)
+/// The reads of a list, whose bytes are then all that `held` holds, in one call.
+/// Where it is refused: by what, and the place of the range that brought it about,
+/// the first whose read is refused by itself.
+pub fn read_call(
+    loaded: &mut Loaded,
+    list: &[Range],
+    held: &mut Vec<u8>,
+) -> Result<(), (Refusal, Option<usize>)> {
+    held.resize(list.iter().map(|piece| piece.length as usize).sum(), 0);
+    let answer = loaded.store.lend().read_many(list, held);
+    answer.map(drop).map_err(|refusal| {
+        let first = list.iter().position(|piece| {
+            let out = held.get_mut(..piece.length as usize).unwrap_or_default();
+            let read = loaded.store.lend().read(piece.object, piece.offset, out);
+            read.is_err()
+        });
+        (refusal, first)
+    })
 }
 
 #[cfg(test)]

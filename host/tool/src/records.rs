@@ -6,7 +6,7 @@ use sangueko::{CARD_BYTES, EXTENT_BYTES, GROUP_BYTES, StoreBuf};
 
 use crate::time::Time;
 
-pub const UNIT_BYTES: u64 = 65_536;
+pub const UNIT_BYTES: u64 = sangueko::UNIT_BYTES;
 pub const UNIT_BLOCKS: u64 = 16;
 pub const GROUP_UNITS: u64 = 256;
 pub const BLOCK: u64 = sangueko::BLOCK_BYTES as u64;

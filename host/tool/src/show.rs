@@ -176,11 +176,11 @@ fn groups(records: &Records<'_>, view: &View, out: &mut impl Write) -> io::Resul
     rest(records.groups.len(), shown, out)
 }
 
-fn shown(number: usize, view: &View) -> usize {
+pub fn shown(number: usize, view: &View) -> usize {
     if view.all { number } else { number.min(SHOWN) }
 }
 
-fn rest(number: usize, shown: usize, out: &mut impl Write) -> io::Result<()> {
+pub fn rest(number: usize, shown: usize, out: &mut impl Write) -> io::Result<()> {
     if number > shown {
         writeln!(
             out,

@@ -1,8 +1,10 @@
 //! The block map as an SVG file: every block has its place, whatever the store's
-//! size.
+//! size. The units of a file likewise, but for a file of very many.
 
 use std::fmt::Write;
+use std::ops::Range;
 
+use crate::data::Data;
 use crate::picture::{Kind, Measures, kinds};
 use crate::records::Records;
 use crate::words::{counted, grouped};
@@ -14,23 +16,62 @@ const LINE: usize = 20;
 pub fn svg(records: &Records<'_>, per_mille: u64) -> String {
     let kinds = kinds(records);
     let measures = Measures::of(&kinds);
-    let columns = columns(kinds.len());
-    let side = WIDTH / columns;
-    let rows = kinds.len().div_ceil(columns);
-    let top = MARGIN + 4 * LINE;
-    let legend = top + rows * side + LINE;
     let entries = legend_entries(records);
-    let height = legend + entries.len() * LINE + MARGIN;
-    let mut text = format!(
+    let grid = Grid::new(kinds.len(), MARGIN + 4 * LINE);
+    let mut text = opened(grid.end() + LINE + entries.len() * LINE);
+    headline(&mut text, &measures, &kinds, per_mille);
+    grid.draw(&mut text, &kinds, |kind, blocks| {
+        let (first, last) = (blocks.start, blocks.end - 1);
+        let says = format!("{}: blocks {first} to {last}", named(records, kind));
+        (kind.colour(), says)
+    });
+    closed(text, grid.end() + LINE, &entries)
+}
+
+/// The most cells that a file's units are drawn in: as many as the largest store
+/// has blocks.
+const MOST_CELLS: usize = 65_536;
+
+/// The units of a file that are asked for.
+pub fn data(data: &Data) -> String {
+    let picture = data.picture(1, MOST_CELLS);
+    let entries = data.legend();
+    let grid = Grid::new(picture.cells.len(), MARGIN + 2 * LINE);
+    let mut text = opened(grid.end() + LINE + entries.len() * LINE);
+    let each = match picture.scale {
+        1 => String::new(),
+        scale => format!("; a cell stands for {}", counted(scale, "unit")),
+    };
+    let _ = writeln!(
+        text,
+        "<text x=\"{MARGIN}\" y=\"{}\" font-size=\"16\">{}{each}</text>",
+        MARGIN + LINE / 2,
+        data.headline()
+    );
+    grid.draw(&mut text, &picture.cells, |cell, cells| {
+        let units = picture.numbers(cells);
+        let (first, last) = (units.start, units.end - 1);
+        let says = format!("{}: units {first} to {last}", Data::named(cell));
+        (cell.colour(), says)
+    });
+    closed(text, grid.end() + LINE, &entries)
+}
+
+/// The head of a file in which the last thing ends so far down.
+fn opened(end: usize) -> String {
+    let height = end + MARGIN;
+    format!(
         "<svg xmlns=\"http://www.w3.org/2000/svg\" width=\"{0}\" height=\"{height}\" viewBox=\"0 0 {0} {height}\" \
          font-family=\"sans-serif\" font-size=\"13\">\n<rect width=\"100%\" height=\"100%\" fill=\"#ffffff\"/>\n",
         WIDTH + 2 * MARGIN
-    );
-    headline(&mut text, &measures, &kinds, per_mille);
-    squares(&mut text, records, &kinds, columns, side, top);
+    )
+}
+
+/// The file, with what the colours mean.
+fn closed(mut text: String, legend: usize, entries: &[(Kind, String)]) -> String {
     for (at, (kind, says)) in entries.iter().enumerate() {
         let y = legend + at * LINE;
-        rect(&mut text, (MARGIN, y), (12, 12), *kind, None);
+        rect(&mut text, (MARGIN, y), (12, 12), kind.colour(), None);
         let _ = writeln!(
             text,
             "<text x=\"{}\" y=\"{}\">{says}</text>",
@@ -79,7 +120,7 @@ fn headline(text: &mut String, measures: &Measures, kinds: &[Kind], per_mille: u
             text,
             (MARGIN + drawn, MARGIN + LINE),
             (end - drawn, LINE),
-            kind,
+            kind.colour(),
             None,
         );
         drawn = end;
@@ -104,42 +145,64 @@ fn parts(kinds: &[Kind]) -> Vec<(Kind, usize)> {
         .collect()
 }
 
-/// Blocks of one kind that adjoin in a row are one rectangle.
-fn squares(
-    text: &mut String,
-    records: &Records<'_>,
-    kinds: &[Kind],
+/// Squares in rows.
+struct Grid {
+    squares: usize,
     columns: usize,
     side: usize,
     top: usize,
-) {
-    for (row, blocks) in kinds.chunks(columns).enumerate() {
-        let mut column = 0;
-        for same in blocks.chunk_by(|a, b| a == b) {
-            let Some(&kind) = same.first() else { continue };
-            let first = row * columns + column;
-            let place = (MARGIN + column * side, top + row * side);
-            let gap = usize::from(side > 4);
-            let size = (same.len() * side - gap, side - gap);
-            let says = format!(
-                "{}: blocks {first} to {}",
-                named(records, kind),
-                first + same.len() - 1
-            );
-            rect(text, place, size, kind, Some(says));
-            column += same.len();
+}
+
+impl Grid {
+    fn new(squares: usize, top: usize) -> Self {
+        let columns = columns(squares);
+        Self {
+            squares,
+            columns,
+            side: WIDTH / columns,
+            top,
+        }
+    }
+
+    fn end(&self) -> usize {
+        self.top + self.squares.div_ceil(self.columns) * self.side
+    }
+
+    /// Those of one kind that adjoin in a row are one rectangle, of which is told
+    /// what colour it has and what it says.
+    fn draw<T: Copy + PartialEq>(
+        &self,
+        text: &mut String,
+        squares: &[T],
+        told: impl Fn(T, Range<usize>) -> (Colour, String),
+    ) {
+        let side = self.side;
+        for (row, squares) in squares.chunks(self.columns).enumerate() {
+            let mut column = 0;
+            for same in squares.chunk_by(|a, b| a == b) {
+                let Some(&kind) = same.first() else { continue };
+                let first = row * self.columns + column;
+                let place = (MARGIN + column * side, self.top + row * side);
+                let gap = usize::from(side > 4);
+                let size = (same.len() * side - gap, side - gap);
+                let (colour, says) = told(kind, first..first + same.len());
+                rect(text, place, size, colour, Some(says));
+                column += same.len();
+            }
         }
     }
 }
+
+/// Red, green and blue.
+type Colour = (u8, u8, u8);
 
 fn rect(
     text: &mut String,
     (x, y): (usize, usize),
     (w, h): (usize, usize),
-    kind: Kind,
+    (r, g, b): Colour,
     says: Option<String>,
 ) {
-    let (r, g, b) = kind.colour();
     let shape = format!(
         "<rect x=\"{x}\" y=\"{y}\" width=\"{w}\" height=\"{h}\" fill=\"#{r:02x}{g:02x}{b:02x}\""
     );

@@ -2,9 +2,10 @@
 //! the library refuses.
 
 use std::collections::BTreeSet;
+use std::ops::Range;
 
 use crate::crc32c::unit_checksum;
-use crate::records::{BLOCK, Card, GROUP_UNITS, Records, UNIT_BLOCKS};
+use crate::records::{BLOCK, Card, Extent, GROUP_UNITS, Records, UNIT_BLOCKS};
 use crate::words::grouped;
 
 /// The file's units that have a checksum or a part of an extent. All others
@@ -13,9 +14,7 @@ pub fn written(records: &Records<'_>, card: &Card) -> BTreeSet<u64> {
     let mut units = BTreeSet::new();
     let end = card.units();
     for extent in records.extents_of(card.object) {
-        // within the file's size, by refusal 2, and so below 2^51
-        let last = extent.logical + extent.count.saturating_sub(1);
-        units.extend(extent.logical / UNIT_BLOCKS..=last / UNIT_BLOCKS);
+        units.extend(units_of(extent));
     }
     for group in records.groups_of(card.object) {
         let slots = (0..GROUP_UNITS).filter(|&n| group.slot(n).is_some());
@@ -28,6 +27,39 @@ pub fn written(records: &Records<'_>, card: &Card) -> BTreeSet<u64> {
         );
     }
     units
+}
+
+/// Units of the range that have a part of an extent but are in none of the
+/// stretches, and so have no checksum. No list of calls leads there, and a read
+/// of one is refused by 9.
+pub fn unchecked(
+    records: &Records<'_>,
+    card: &Card,
+    range: &Range<u64>,
+    stretches: &[Range<u64>],
+) -> Vec<u64> {
+    let held = |unit: u64| {
+        let at = stretches.partition_point(|stretch| stretch.end <= unit);
+        stretches
+            .get(at)
+            .is_some_and(|stretch| stretch.start <= unit)
+    };
+    let mut units = Vec::new();
+    for extent in records.extents_of(card.object) {
+        let of_extent = units_of(extent);
+        let within = of_extent.start.max(range.start)..of_extent.end.min(range.end);
+        units.extend(within.filter(|&unit| !held(unit)));
+    }
+    // the extents ascend; two of them can have blocks in one unit
+    units.dedup();
+    units
+}
+
+/// The units that an extent has blocks in.
+fn units_of(extent: &Extent) -> Range<u64> {
+    // within the file's size, by refusal 2, and so below 2^51
+    let last = extent.logical + extent.count.saturating_sub(1);
+    extent.logical / UNIT_BLOCKS..last / UNIT_BLOCKS + 1
 }
 
 /// What document 01's refusals 9 to 12 say of a unit: the first that applies,

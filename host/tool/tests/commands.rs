@@ -330,7 +330,7 @@ fn explain_has_a_word_on_every_refusal() {
         assert!(text.contains(&refusal.to_string()), "{text}");
         assert!(text.contains("What to do: "), "{text}");
     }
-    assert!(refused(&["explain", "19"], 64).contains("1 to 18"));
+    assert!(refused(&["explain", "20"], 64).contains("1 to 19"));
     refused(&["explain", "0"], 64);
 }
 
@@ -366,6 +366,7 @@ fn the_exit_code_is_the_refusal() {
     refused(&["read", folder, "7"], 3);
     refused(&["write", folder, "7"], 3);
     refused(&["flags", folder, "7"], 3);
+    refused(&["data", folder, "7"], 3);
     refused(&["enter", folder, "7", "--time", "9223372036854775808"], 7);
     done(&["enter", folder, "7"]);
     refused(&["enter", folder, "7"], 4);
@@ -373,6 +374,7 @@ fn the_exit_code_is_the_refusal() {
     refused(&["grow", folder, "7", "9223372036854775808"], 5);
     done(&["grow", folder, "7", "100000000"]);
     refused(&["grow", folder, "7", "1"], 6);
+    refused(&["data", folder, "7", "1", "18446744073709551615"], 19);
     assert_eq!(code(&fed(&["write", folder, "7"], &[1; 200_000])), 13);
     assert_eq!(code(&fed(&["write", folder, "7"], &[1; 10])), 0);
     assert_eq!(
@@ -389,7 +391,7 @@ fn the_exit_code_is_the_refusal() {
 
 #[test]
 fn wrong_words_end_with_64() {
-    let cases: [&[&str]; 11] = [
+    let cases: [&[&str]; 12] = [
         &[],
         &["made-up"],
         &["new"],
@@ -401,6 +403,7 @@ fn wrong_words_end_with_64() {
         &["enter", "folder", "7", "--time", "now"],
         &["new", "folder", "--uuid", "12"],
         &["show", "folder", "--columns", "0"],
+        &["data", "folder"],
     ];
     for words in cases {
         assert!(refused(words, 64).contains("--help"), "{words:?}");
@@ -412,7 +415,7 @@ fn every_command_has_help() {
     let top = done(&["--help"]);
     for name in [
         "new", "enter", "write", "batch", "read", "grow", "settle", "fill", "show", "check",
-        "flags", "explain",
+        "data", "flags", "explain",
     ] {
         assert!(top.contains(&format!("sangueko {name} ")), "{name}");
         let help = done(&[name, "--help"]);

@@ -55,12 +55,13 @@ fn refused_with_note(store: &StoreBuf, number: i32, says: &str) {
     let path = temporary.path("store");
     let folder = path.to_str().unwrap();
     put_store(store, &path);
-    let commands: [&[&str]; 9] = [
+    let commands: [&[&str]; 10] = [
         &["check", folder],
         &["show", folder],
         &["fill", folder],
         &["settle", folder],
         &["read", folder, "1"],
+        &["data", folder, "1"],
         &["flags", folder, "1"],
         &["write", folder, "1"],
         &["enter", folder, "9"],

@@ -67,6 +67,7 @@ fn answer(store: &mut Store, call: &Call, output: &mut [u8]) -> Outcome {
         | Call::Enter { .. }
         | Call::ReadMany { .. }
         | Call::WriteBatch { .. }
+        | Call::DataStretches { .. }
         | Call::Settle
         | Call::Fill => return Outcome::NoCounterpart,
     };

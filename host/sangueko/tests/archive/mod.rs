@@ -51,6 +51,12 @@ impl Library for Archive {
                 seconds,
                 nanoseconds,
             } => return batched(store.write_batch_bytes(list, bytes, seconds, nanoseconds)),
+            Request::DataStretches {
+                object,
+                first,
+                units,
+                out,
+            } => store.data_stretches(object, first, units, out),
         })
     }
 }
