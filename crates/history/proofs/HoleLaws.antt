@@ -2,39 +2,39 @@
 -- there. Demand 3's claim of W-206.
 -- Assumes nothing.
 use mathlib.Core.Path.{_≡_, refl, sym, ap, _∙_, subst}
-use mathlib.Core.List.{List, [], _∷_, _++_, flatMap}
-use mathlib.Core.Bool.{Bool, true, false, _&&_, _||_}
+use mathlib.Core.List.{List}
+use mathlib.Core.Bool.{Bool, true, false}
 use mathlib.Core.Option.{Option, none, some}
 use Prim.Native.Nat.{ℕ, _+_, _*_, _≤_, _<_}
 use native.Mathlib.Omega.{arith}
 use lib.Dec.{ltb, leb}
-use lib.ListN.{length, drop, drop-of-length-le}
+use lib.ListN.{length, drop-of-length-le}
 use borrow.Author.Tests.{ltb-true, ltb-false, lt-ltb, leb-true, leb-false}
 use Rattle.rules.specs.Lists.{if_then_else_, given, all, any, member}
 use Rattle.rules.specs.Sizes.{unitBytes}
 use Rattle.rules.specs.Bytes.{part, allZero}
 use Rattle.rules.specs.Card.{Card}
 use Rattle.rules.specs.Store.{Store, Volume, decode, cardOf}
-use Rattle.rules.specs.Refusal.{Outcome, Result, _when_, numberOf, firstOf, result}
+use Rattle.rules.specs.Refusal.{Outcome, numberOf, result}
 use Rattle.rules.specs.Refusal.Refusal.{no-card, no-checksum}
-use Rattle.rules.specs.Refusal.Outcome.{refuse, accept}
+use Rattle.rules.specs.Refusal.Outcome.{refuse}
 use Rattle.rules.specs.Inspect.{Inspected, checksumOf, backedUnder, inspectSlot, inspectUnit}
 use Rattle.rules.specs.Inspect.Inspected.{damaged, hole}
 use Rattle.rules.specs.Arguments.{withCard}
-use Rattle.rules.specs.Stretches.{Stretch, holdsData, stretchesOf, mostNumber, rangeWrong, stretchBytes, encodeStretch, listStretches, stretchesFile, stretchesOutcome, liesIn}
+use Rattle.rules.specs.Stretches.{Stretch, holdsData, stretchesOf, mostNumber, rangeWrong, listStretches, stretchesFile, stretchesOutcome, liesIn}
 use Rattle.rules.specs.Call.{call}
 use Rattle.rules.specs.Call.Look.{dataStretches}
 use Rattle.rules.specs.Call.Call.{look}
 use Rattle.rules.specs.Plain.{File, fileBytes}
 use Rattle.rules.specs.Demand.{PlainStretches, pairsGiven, neverNumbers}
-use Rattle.rules.proofs.ListLaws.{test-cases, clash, and-left, and-right, and-intro, or-none-left, if-cases, maybe-cases, maybe-none, given-some, each-none, each-more, each-weaken}
+use Rattle.rules.proofs.ListLaws.{test-cases, clash, and-right, and-intro, or-none-left, maybe-cases, maybe-none, given-some, each-none, each-more, each-weaken}
 use Rattle.rules.proofs.CountLaws.{any-count, any-none}
 use Rattle.rules.proofs.ByteLaws.{allZero-replicate}
 use Rattle.rules.proofs.StretchLaws.{stretches-right, stretches-within, decode-stretches}
 use Rattle.rules.proofs.PassLaws.{Passes}
 use Rattle.rules.proofs.OutcomeLaws.{firstOf-cases, accepted-cases, never-zero, goes-on}
 use Rattle.history.proofs.HistoryLaws.{Never}
-use Rattle.history.proofs.ReadLaws.{UnitIs, is-hole, is-checked, FileIs, AllKnown}
+use Rattle.history.proofs.ReadLaws.{UnitIs, is-hole, FileIs, AllKnown}
 
 -- ---- a unit with no slot
 

@@ -1,18 +1,18 @@
 -- Laws of the groups of a file in an ordered book, by the place of the first that is not in front of a number.
 -- Assumes nothing.
-use mathlib.Core.Path.{_≡_, refl, sym, ap, _∙_, subst}
-use mathlib.Core.Bool.{Bool, true, false, not, _&&_}
-use mathlib.Core.List.{List, []}
+use mathlib.Core.Path.{_≡_, sym, ap, _∙_, subst}
+use mathlib.Core.Bool.{Bool, true, false}
+use mathlib.Core.List.{List}
 use mathlib.Core.Option.{none, some}
-use Prim.Native.Nat.{ℕ, zero, suc, _+_, _-_, _*_, _/_, _%_, _≤_, _<_}
+use Prim.Native.Nat.{ℕ, zero, suc, _+_, _-_, _/_, _%_, _≤_, _<_}
 use native.Mathlib.Omega.{arith}
 use lib.Dec.{eqb, ltb}
 use lib.ListN.{length, getD}
-use borrow.Author.Tests.{eqb-true, eqb-false, eq-eqb, ltb-true, ltb-false}
-use Rattle.rules.specs.Lists.{maybe, given, any, find, ascending, pairBefore}
+use borrow.Author.Tests.{eqb-true, eq-eqb, ltb-true, ltb-false}
+use Rattle.rules.specs.Lists.{given, any, find, pairBefore}
 use Rattle.rules.specs.Sizes.{groupUnits}
 use Rattle.rules.specs.Group.{Group, groupBytes, decodeGroup, groupBefore, checksumSlot}
-use Rattle.rules.proofs.ListLaws.{test-cases, order-cases, clash, and-left, and-right, and-intro, maybe-some, maybe-none, find-at, find-none, any-index, ascending-at, pairBefore-cases, pairBefore-first, pairBefore-second, pairBefore-trans, pairBefore-not, pairBefore-total}
+use Rattle.rules.proofs.ListLaws.{test-cases, order-cases, clash, and-left, and-right, and-intro, maybe-some, maybe-none, find-at, find-none, any-index, ascending-at, pairBefore-cases, pairBefore-first, pairBefore-second, pairBefore-trans, pairBefore-not}
 use Rattle.rules.proofs.BookLaws.{length-decodeBook, getD-decodeBook}
 use Rattle.halving.specs.Halving.{Parted}
 use Rattle.book.specs.Places.{recordAt, groupIs, groupUnder, leading}

@@ -1,20 +1,19 @@
 -- Laws of the slots of one group: the next that is present, or is not, told of its presence bits, and of the units.
 -- Assumes nothing.
 use mathlib.Core.Path.{_≡_, refl, sym, ap, _∙_}
-use mathlib.Core.Bool.{Bool, true, false, not, _&&_}
+use mathlib.Core.Bool.{Bool, not, _&&_}
 use mathlib.Core.List.{List}
-use mathlib.Core.Option.{none}
 use Prim.Native.Nat.{ℕ, _+_, _-_, _*_, _/_, _%_, _≤_, _<_}
 use native.Mathlib.Omega.{arith}
 use lib.Dec.{eqb, ltb}
 use lib.ListN.{take, drop}
-use borrow.Author.Tests.{ltb-true, le-ltb, lt-ltb, eq-eqb, ne-eqb}
-use Rattle.rules.specs.Lists.{if_then_else_, given}
+use borrow.Author.Tests.{le-ltb, lt-ltb, eq-eqb, ne-eqb}
+use Rattle.rules.specs.Lists.{given}
 use Rattle.rules.specs.Sizes.{groupUnits}
 use Rattle.rules.specs.Bytes.{part, bitSet}
 use Rattle.rules.specs.Group.{groupBytes, decodeGroup, checksumSlot}
 use Rattle.rules.specs.Stretches.{mostNumber}
-use Rattle.rules.proofs.ListLaws.{test-cases, and-left, and-right, if-true, if-false, clash}
+use Rattle.rules.proofs.ListLaws.{if-true, if-false}
 use Rattle.bitmap.specs.Map.{Next}
 use Rattle.checksum_group.specs.Slots.{valuesAt}
 use Rattle.checksum_group.proofs.SlotLaws.{given-slots, group-read, length-valuesAt}

@@ -12,7 +12,7 @@ use Rattle.rules.specs.Lists.{if_then_else_, given, pairBefore}
 use Rattle.rules.specs.Sizes.{groupUnits}
 use Rattle.rules.specs.Group.{groupBytes, decodeGroup, checksumSlot}
 use Rattle.rules.specs.Stretches.{mostNumber}
-use Rattle.rules.proofs.ListLaws.{test-cases, order-cases, clash, and-left, and-right, if-cases, pairBefore-first, pairBefore-second, pairBefore-total, pairBefore-not}
+use Rattle.rules.proofs.ListLaws.{test-cases, order-cases, clash, and-left, and-right, if-cases, pairBefore-first, pairBefore-second, pairBefore-not}
 use Rattle.rules.proofs.StretchLaws.{no-stretch, next-stretch}
 use Rattle.halving.specs.Halving.{Parted}
 use Rattle.book.specs.Places.{recordAt, groupUnder}

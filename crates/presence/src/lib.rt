@@ -39,7 +39,7 @@ pub struct Span {
 }
 
 // The smaller of two numbers.
-fn least(a: u64, b: u64) -> u64
+pub fn least(a: u64, b: u64) -> u64
     ensures { λ r. ⌜ r ≡ min a b ⌝ }
 {
     if a < b {

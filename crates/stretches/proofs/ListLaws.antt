@@ -1,17 +1,17 @@
 -- Laws of a walk that takes one stretch after another: how many it has counted, and what it has written.
 -- Assumes nothing.
 use mathlib.Core.Path.{_≡_, refl, sym, ap, _∙_}
-use mathlib.Core.Bool.{Bool, true, false, _||_}
+use mathlib.Core.Bool.{Bool, false, _||_}
 use mathlib.Core.List.{List, [], _∷_, _++_, flatMap, append-nil}
 use mathlib.Core.Option.{none, some}
-use Prim.Native.Nat.{ℕ, zero, suc, _+_, _-_, _*_, _/_, _^_, min, _≤_, _<_}
+use Prim.Native.Nat.{ℕ, suc, _+_, _-_, _*_, _/_, _^_, min, _≤_, _<_}
 use native.Mathlib.Omega.{arith}
 use native.Mathlib.Nat.{zero-add}
 use lib.Dec.{ltb}
-use lib.ListN.{length, take, drop, length-drop, length-append}
+use lib.ListN.{length, take, drop, length-drop}
 use lib.Seq.{take-all, take-add, drop-drop, length-take-le}
-use borrow.Author.Tests.{ltb-true, ltb-false, lt-ltb, le-ltb}
-use Rattle.rules.specs.Lists.{if_then_else_, range, filter, find, begun}
+use borrow.Author.Tests.{lt-ltb, le-ltb}
+use Rattle.rules.specs.Lists.{if_then_else_, filter, find, begun}
 use Rattle.rules.specs.Sizes.{unitBytes}
 use Rattle.rules.specs.Bytes.{leDigits, part, patch}
 use Rattle.rules.specs.Head.{Head, decodeHead}
@@ -19,7 +19,6 @@ use Rattle.rules.specs.Card.{cardBytes, decodeCard}
 use Rattle.rules.specs.Book.{decodeBook}
 use Rattle.rules.specs.Group.{Group}
 use Rattle.rules.specs.Refusal.{numberOf}
-use Rattle.rules.specs.Refusal.Refusal.{bad-range}
 use Rattle.rules.specs.Stretches.{Stretch, stretches, stretchBytes, encodeStretch, mostNumber, rangeWrong}
 use Rattle.rules.proofs.ListLaws.{if-true, if-false, maybe-some, maybe-none, or-left, or-right, each-any}
 use Rattle.rules.proofs.CountLaws.{range-none, flatMap-append}

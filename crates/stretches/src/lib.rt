@@ -4,7 +4,7 @@
 // all of them.
 ghost use mathlib.Core.Path.{_≡_};
 ghost use mathlib.Core.List.{_++_, flatMap};
-ghost use Prim.Native.Nat.{_+_, _-_, _*_, _^_, _≤_, _<_, min};
+ghost use Prim.Native.Nat.{_+_, _-_, _*_, _^_, _≤_, _<_};
 ghost use lib.ListN.{length, drop};
 ghost use Rattle.rules.specs.Lists.{begun};
 ghost use Rattle.rules.specs.Sizes.{unitBytes};
@@ -32,16 +32,6 @@ const UNITS_AT: usize = 8;
 pub struct Listed {
     pub number: u32,
     pub count: u64,
-}
-
-// The smaller of two numbers.
-fn least(a: u64, b: u64) -> u64
-    ensures { λ r. ⌜ r ≡ min a b ⌝ }
-{
-    if a < b {
-        return a;
-    }
-    b
 }
 
 // How many units a file of this size begins. No sum of the size, which is up to the last number of 64 bits.
@@ -127,7 +117,7 @@ fn list_file(
             count: 0,
         };
     }
-    let end = least(first + units, units_begun(size));
+    let end = presence::least(first + units, units_begun(size));
     let count = count_stretches(groups, n, object, first, end);
     if count > (out.len() / STRETCH_BYTES) as u64 {
         return Listed {

@@ -4,11 +4,11 @@ use mathlib.Core.Path.{_≡_, refl, sym, ap, _∙_}
 use mathlib.Core.Bool.{Bool, true, false, _&&_}
 use mathlib.Core.List.{List, [], _∷_, _++_, flatMap}
 use mathlib.Core.Option.{Option, none, some}
-use Prim.Native.Nat.{ℕ, _*_, _/_, _%_}
+use Prim.Native.Nat.{ℕ, _*_, _%_}
 use lib.Dec.{eqb, ltb}
 use lib.ListN.{length, drop}
 use borrow.Author.Tests.{eqb-true}
-use Rattle.rules.specs.Lists.{if_then_else_, maybe, given, find, filter, range, ascending}
+use Rattle.rules.specs.Lists.{maybe, given, find, range, ascending}
 use Rattle.rules.specs.Sizes.{unitBytes, groupUnits}
 use Rattle.rules.specs.Head.{decodeHead}
 use Rattle.rules.specs.Card.{Card, cardBefore}
@@ -16,9 +16,9 @@ use Rattle.rules.specs.Extent.{extentBefore}
 use Rattle.rules.specs.Group.{Group, groupBefore, checksumSlot}
 use Rattle.rules.specs.Book.{Books, decodeBooks}
 use Rattle.rules.specs.Store.{Store, decode, decodeWith, cardOf}
-use Rattle.rules.specs.Refusal.{Result, Outcome, _when_, numberOf, firstOf, result}
+use Rattle.rules.specs.Refusal.{Result, _when_, numberOf, firstOf, result}
 use Rattle.rules.specs.Refusal.Refusal.{no-card, bad-range}
-use Rattle.rules.specs.Refusal.Outcome.{refuse, accept}
+use Rattle.rules.specs.Refusal.Outcome.{refuse}
 use Rattle.rules.specs.Integrity.{ordered}
 use Rattle.rules.specs.Arguments.{withCard}
 use Rattle.rules.specs.Inspect.{checksumOf}

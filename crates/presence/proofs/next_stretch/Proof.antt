@@ -1,6 +1,5 @@
 -- `presence::next_stretch` meets its contract.
 -- Assumes nothing.
-use native.Mathlib.Omega.{arith}
 use borrow.Author.Needs.{needs}
 use Rattle.presence.proofs.WalkLaws.{span-stretch, span-bounds}
 use Rattle.presence.proofs.next_stretch.Statement.{statement}

@@ -1,17 +1,14 @@
+-- `presence::start_walk` meets its contract.
+-- Assumes nothing.
 use mathlib.Core.Path.{refl}
 use borrow.Author.Needs.{needs}
 use Rattle.presence.proofs.PlaceLaws.{parted-leading}
 use Rattle.presence.proofs.start_walk.Statement.{statement}
 use Rattle.presence.proofs.start_walk.Tie as tie
-use Rattle.presence.proofs.start_walk.Reads as reads
-use Rattle.presence.proofs.start_walk.Lts as lts
-use Rattle.book.proofs.find.first_group.Reads as first-group-reads
 
--- src/lib.rt:148:16
 first-group-requires : tie.Need-first-group-requires
 first-group-requires c κs = search needs
 
--- src/lib.rt:142:1
 returns : tie.Need-returns
 returns c = (refl, parted-leading _ _ (c .before .before .pre) _ _ _ (c .first-group .ensures .0 (c .before .before .pre .order)) (c .first-group .ensures .1))
 
