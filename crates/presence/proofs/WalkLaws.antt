@@ -7,12 +7,12 @@ use Prim.Native.Nat.{ℕ, suc, _+_, _-_, _*_, _/_, _%_, _^_, min, _≤_, _<_}
 use native.Mathlib.Omega.{arith}
 use lib.Dec.{eqb, ltb}
 use lib.ListN.{length}
-use borrow.Author.Tests.{eqb-true, eq-eqb, ltb-true, ltb-false, lt-ltb, not-true}
+use borrow.Author.Tests.{eqb-true, eq-eqb, ne-eqb, ltb-true, ltb-false, lt-ltb, not-true}
 use Rattle.rules.specs.Lists.{if_then_else_, given, pairBefore}
 use Rattle.rules.specs.Sizes.{groupUnits}
 use Rattle.rules.specs.Group.{groupBytes, decodeGroup, checksumSlot}
 use Rattle.rules.specs.Stretches.{mostNumber}
-use Rattle.rules.proofs.ListLaws.{test-cases, order-cases, clash, and-left, and-right, if-cases, pairBefore-first, pairBefore-second, pairBefore-not}
+use Rattle.rules.proofs.ListLaws.{test-cases, order-cases, clash, and-left, and-right, if-true, if-false, if-cases, pairBefore-first, pairBefore-second, pairBefore-not}
 use Rattle.rules.proofs.StretchLaws.{no-stretch, next-stretch}
 use Rattle.halving.specs.Halving.{Parted}
 use Rattle.book.specs.Places.{recordAt, groupUnder}
@@ -132,9 +132,6 @@ module _ (n : ℕ) (s : List ℕ) (right : GroupsRight n s) (object : ℕ) (b : 
           (subst (λ (z : ℕ). Parted (λ i. groupUnder object (suc (unit / groupUnits)) (recordAt decodeGroup groupBytes s i)) n z) y (parted-next n s right object (unit / groupUnits) place (w .placed l) (o .0) (o .1) (o .2 ∙ h)));
     }
 
-    pub step-group-more : (u / groupUnits ≡ m → ⊥) → unit < u
-    step-group-more g = omega (arith, g, h, next .least, next .most)
-
   module _ (d : m ≡ unit / groupUnits → ⊥) where
     -- the unit's group is not in the book: the one there is of a greater number, or none of the file's
     more : unit / groupUnits < m
@@ -181,9 +178,6 @@ module _ (n : ℕ) (s : List ℕ) (right : GroupsRight n s) (object : ℕ) (b : 
           own-not : groupUnder object m (recordAt decodeGroup groupBytes s place) ≡ false
           own-not = let o = number-own n s right object place m q (omega (arith, k, small)) in rw (o .1, o .2) (pairBefore-not object m)
 
-      pub step-jump-more : unit < m * groupUnits
-      step-jump-more = omega (arith, more)
-
 -- the walk has come to the end
 pub walk-ends : (n : ℕ) (s : List ℕ) (object : ℕ) (b : Bool) (a e unit place : ℕ) → a ≤ e → Walked n s object b a e unit place → e ≤ unit → NextOf (slotted (groupsIn n s) object) b a e e
 walk-ends n s object b a e unit place k w l = record {
@@ -192,6 +186,30 @@ walk-ends n s object b a e unit place k w l = record {
   before = λ v c d. w .before v c (omega (arith, d, l)) d;
   found = λ j. absurd (omega (arith, j));
 }
+
+-- ---- how long it takes
+
+-- rounds that are left: two for each group of the book from the place on, one to come to it and one to look into it, and one more where the walk is not at
+-- the group that stands there. So it is the groups that a walk goes through, whatever the range
+unfoldable pub roundsLeft : (n : ℕ) (s : List ℕ) (object unit place : ℕ) → ℕ
+roundsLeft n s object unit place = 2 * (n - place) + (if eqb (numberAt n s object place) (unit / groupUnits) then 0 else 1)
+
+-- whatever they are, one more at most
+one-most : (b : Bool) → (if b then 0 else 1) ≤ 1
+one-most b = if-cases (λ k. k ≤ 1) b 0 1 (λ t. omega arith) (λ t. omega arith)
+
+module _ (n : ℕ) (s : List ℕ) (object unit place : ℕ) where
+  -- a group is behind
+  pub rounds-group : (u : ℕ) → place + 1 ≤ n → roundsLeft n s object u (place + 1) < roundsLeft n s object unit place
+  unfolding roundsLeft
+  rounds-group u l = let x = one-most (eqb (numberAt n s object (place + 1)) (u / groupUnits)) in omega (arith, l, x)
+
+  -- the walk has come to the group there
+  pub rounds-jump : (m : ℕ) → m ≡ numberAt n s object place → (m ≡ unit / groupUnits → ⊥) → roundsLeft n s object (m * groupUnits) place < roundsLeft n s object unit place
+  unfolding roundsLeft
+  rounds-jump m q d =
+      let e : numberAt n s object place ≡ m * groupUnits / groupUnits = omega (arith, q) in
+      rw (if-true {A = ℕ} (eqb (numberAt n s object place) (m * groupUnits / groupUnits)) 0 1 (eq-eqb _ _ e), if-false {A = ℕ} (eqb (numberAt n s object place) (unit / groupUnits)) 0 1 (ne-eqb _ _ (λ x. d (q ∙ x)))) (omega arith)
 
 -- ---- a stretch
 

@@ -50,6 +50,12 @@ module _ (rs rest : List Stretch) (r : Stretch) (first end : ℕ) (e : rs ≡ (i
   pub found-one : first < end → rs ≡ r ∷ rest
   found-one l = e ∙ if-true (ltb first end) (r ∷ rest) [] (lt-ltb first end l)
 
+-- and fewer are left behind it: the walk takes a round for each stretch
+pub fewer-left : (rs rest : List Stretch) (r : Stretch) → rs ≡ r ∷ rest → length rest < length rs
+fewer-left rs rest r e =
+    let l : length rs ≡ suc (length rest) = ap length e in
+    omega (arith, l)
+
 -- ---- counted
 
 -- so many of the stretches are counted, and these are left

@@ -1,9 +1,8 @@
 -- `presence::next_unit` meets its contract.
 -- Assumes nothing.
-use Prim.Native.Nat.{_-_}
 use native.Mathlib.Omega.{arith}
 use borrow.Author.Needs.{needs}
-use Rattle.presence.proofs.WalkLaws.{Walked, walk-starts, walk-ends, group-within, place-fits, step-found, step-found-placed, step-group, step-group-more, step-hole, step-end, step-jump, step-jump-more}
+use Rattle.presence.proofs.WalkLaws.{Walked, walk-starts, walk-ends, group-within, place-fits, step-found, step-found-placed, step-group, step-hole, step-end, step-jump, roundsLeft, rounds-group, rounds-jump}
 use Rattle.presence.proofs.next_unit.Statement.{statement}
 use Rattle.presence.proofs.next_unit.Tie as tie
 
@@ -11,7 +10,7 @@ abbrev Inv-loop : tie.InvT-loop
 Inv-loop groups n object end present unit₀ place₀ unit place = Walked n groups object present unit₀ end unit place
 
 abbrev μ-loop : tie.MeasureT-loop
-μ-loop groups n object end present unit₀ place₀ unit place = end - unit
+μ-loop groups n object end present unit₀ place₀ unit place = roundsLeft n groups object unit place
 
 loop-holds : tie.Need-loop-holds Inv-loop μ-loop
 loop-holds c = walk-starts _ _ _ _ _ _ _ (c .before .pre .1 .1)
@@ -32,7 +31,7 @@ add-place : tie.Need-add-place Inv-loop μ-loop
 add-place c = search (place-fits _ _ (c .before .before .before .before .before .before .before .pre .0) _ _ _ _ _ _ (c .before .before .before .before .before .before .before .pre .1 .0 .1) (c .before .before .before .before .before .loop .inv) (c .before .before .before .before .loop-test .taken) _ (c .before .before .before .number-at .ensures) (c .before .before .if1 .taken), needs)
 
 loop-less : tie.Need-loop-less Inv-loop μ-loop
-loop-less c = search (step-group-more _ _ (c .before .before .before .before .before .before .before .pre .0) _ _ _ _ _ _ (c .before .before .before .before .before .before .before .pre .1 .0 .1) (c .before .before .before .before .before .loop .inv) (c .before .before .before .before .loop-test .taken) _ (c .before .before .before .number-at .ensures) (c .before .before .if1 .taken) _ (c .before .next-in-group .ensures) (c .if2 .left), needs)
+loop-less c = rounds-group _ _ _ _ _ _ (place-fits _ _ (c .before .before .before .before .before .before .before .pre .0) _ _ _ _ _ _ (c .before .before .before .before .before .before .before .pre .1 .0 .1) (c .before .before .before .before .before .loop .inv) (c .before .before .before .before .loop-test .taken) _ (c .before .before .before .number-at .ensures) (c .before .before .if1 .taken))
 
 loop-again : tie.Need-loop-again Inv-loop μ-loop
 loop-again c = step-group _ _ (c .before .before .before .before .before .before .before .pre .0) _ _ _ _ _ _ (c .before .before .before .before .before .before .before .pre .1 .0 .1) (c .before .before .before .before .before .loop .inv) (c .before .before .before .before .loop-test .taken) _ (c .before .before .before .number-at .ensures) (c .before .before .if1 .taken) _ (c .before .next-in-group .ensures) (c .if2 .left)
@@ -50,7 +49,7 @@ mul-unit : tie.Need-mul-unit Inv-loop μ-loop
 mul-unit c = search needs
 
 loop-less-2 : tie.Need-loop-less-2 Inv-loop μ-loop
-loop-less-2 c = search (step-jump-more _ _ (c .before .before .before .before .before .before .before .pre .0) _ _ _ _ _ _ (c .before .before .before .before .before .before .before .pre .1 .0 .1) (c .before .before .before .before .before .loop .inv) (c .before .before .before .before .loop-test .taken) _ (c .before .before .before .number-at .ensures) (c .before .before .if1 .left) (c .before .if3 .left), needs)
+loop-less-2 c = rounds-jump _ _ _ _ _ _ (c .before .before .before .number-at .ensures) (c .before .before .if1 .left)
 
 loop-again-2 : tie.Need-loop-again-2 Inv-loop μ-loop
 loop-again-2 c = step-jump _ _ (c .before .before .before .before .before .before .before .pre .0) _ _ _ _ _ _ (c .before .before .before .before .before .before .before .pre .1 .0 .1) (c .before .before .before .before .before .loop .inv) (c .before .before .before .before .loop-test .taken) _ (c .before .before .before .number-at .ensures) (c .before .before .if1 .left) (c .before .if3 .left) (c .if4 .left)

@@ -1,9 +1,10 @@
 -- `stretches::count_stretches` meets its contract.
 -- Assumes nothing.
-use Prim.Native.Nat.{_-_, _≤_, _<_}
+use Prim.Native.Nat.{_≤_, _<_}
+use lib.ListN.{length}
 use borrow.Author.Needs.{needs}
 use Rattle.presence.specs.Units.{Placed, groupsIn, slotted, stretchesFrom}
-use Rattle.stretches.proofs.ListLaws.{none-left, found-none, found-one, Counted, counted-none, counted-more, counted-all}
+use Rattle.stretches.proofs.ListLaws.{none-left, found-none, found-one, fewer-left, Counted, counted-none, counted-more, counted-all}
 use Rattle.stretches.proofs.count_stretches.Statement.{statement}
 use Rattle.stretches.proofs.count_stretches.Tie as tie
 
@@ -14,7 +15,7 @@ Inv-loop groups n object first end place₀ unit₀ count₀ place unit count =
     × (unit < end → Placed n groups object unit place)
 
 abbrev μ-loop : tie.MeasureT-loop
-μ-loop groups n object first end place₀ unit₀ count₀ place unit count = end - unit
+μ-loop groups n object first end place₀ unit₀ count₀ place unit count = length (stretchesFrom (slotted (groupsIn n groups) object) unit end)
 
 start-walk-requires : tie.Need-start-walk-requires Inv-loop μ-loop
 start-walk-requires c κs = c .before .pre .0
@@ -32,7 +33,7 @@ add-count : tie.Need-add-count Inv-loop μ-loop
 add-count c = search needs
 
 loop-less : tie.Need-loop-less Inv-loop μ-loop
-loop-less c = search needs
+loop-less c = fewer-left _ _ _ (found-one _ _ _ _ _ (c .before .before .next-stretch .ensures .0) (c .if1 .left))
 
 loop-again : tie.Need-loop-again Inv-loop μ-loop
 loop-again c = (counted-more _ _ _ (c .before .before .before .before .loop .inv .0) _ _ (found-one _ _ _ _ _ (c .before .before .next-stretch .ensures .0) (c .if1 .left)), search needs, c .before .before .next-stretch .ensures .1 .1)

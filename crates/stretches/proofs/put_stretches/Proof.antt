@@ -1,11 +1,11 @@
 -- `stretches::put_stretches` meets its contract.
 -- Assumes nothing.
-use Prim.Native.Nat.{_-_, _<_}
+use Prim.Native.Nat.{_<_}
 use mathlib.Core.Path.{_≡_}
 use lib.ListN.{length}
 use borrow.Author.Needs.{needs}
 use Rattle.presence.specs.Units.{Placed, groupsIn, slotted, stretchesFrom}
-use Rattle.stretches.proofs.ListLaws.{none-left, found-none, found-one, Written, written-none, written-below, written-more, written-all}
+use Rattle.stretches.proofs.ListLaws.{none-left, found-none, found-one, fewer-left, Written, written-none, written-below, written-more, written-all}
 use Rattle.stretches.proofs.put_stretches.Statement.{statement}
 use Rattle.stretches.proofs.put_stretches.Tie as tie
 
@@ -16,7 +16,7 @@ Inv-loop groups n object first end out₀ place₀ unit₀ i₀ out place unit i
     × (unit < end → Placed n groups object unit place)
 
 abbrev μ-loop : tie.MeasureT-loop
-μ-loop groups n object first end out₀ place₀ unit₀ i₀ out place unit i = end - unit
+μ-loop groups n object first end out₀ place₀ unit₀ i₀ out place unit i = length (stretchesFrom (slotted (groupsIn n groups) object) unit end)
 
 start-walk-requires : tie.Need-start-walk-requires Inv-loop μ-loop
 start-walk-requires c κs = c .before .before .pre .0
@@ -46,7 +46,7 @@ add-i : tie.Need-add-i Inv-loop μ-loop
 add-i c = search needs
 
 loop-less : tie.Need-loop-less Inv-loop μ-loop
-loop-less c = search needs
+loop-less c = fewer-left _ _ _ (found-one _ _ _ _ _ (c .before .before .before .before .before .before .before .next-stretch .ensures .0) (c .before .before .before .before .before .if1 .left))
 
 loop-again : tie.Need-loop-again Inv-loop μ-loop
 loop-again c = (written-more _ _ _ _ _ (c .before .before .before .before .before .before .before .before .before .loop .inv .0) _ _ (found-one _ _ _ _ _ (c .before .before .before .before .before .before .before .next-stretch .ensures .0) (c .before .before .before .before .before .if1 .left)) _ (c .before .before .before .before .before .before .before .before .before .before .before .before .before .pre .1 .1) (c .before .before .put-stretch .ensures), search needs, c .before .before .before .before .before .before .before .next-stretch .ensures .1 .1)
