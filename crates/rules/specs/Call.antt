@@ -15,7 +15,7 @@ use Rattle.rules.specs.ReadMany.{readManyOutcome}
 use Rattle.rules.specs.Stretches.{stretchesOutcome}
 use Rattle.rules.specs.Settle.{settleOutcome, fillOutcome}
 
--- the calls that leave the store as it is; a read lends its output buffer, many reads lend their list too, and so does a list of stretches its buffer
+-- the calls that leave the store as it is; a read and a list of stretches lend their output buffer, and many reads lend their list too
 pub data Look : Type 0 where
   read : (object offset : ℕ) (out : List ℕ) → Look
   readMany : (list out : List ℕ) → Look
@@ -55,7 +55,8 @@ InRange (grow object size time) = Word object × Word size × WordTime time
 InRange settle = Unit {0}
 InRange (look l) = LookInRange l
 
--- what a call gives: what a write keeps of a unit is held to `mostRuns`; reads alone lend a buffer besides the store that they may change
+-- what a call gives: what a write keeps of a unit is held to `mostRuns`; reads and lists of stretches alone lend a buffer besides the store that they may
+-- change
 unfoldable pub call : Call → Store → Result
 call (fresh uuid reserved) s = result s [] (freshOutcome uuid reserved s)
 call (enter object time) s = result s [] (enterOutcome object time s)
