@@ -1,7 +1,7 @@
 -- The units of the volume that a change leaves: a rewritten one is read as the plain array's new bytes, and every other as before.
 -- Assumes nothing.
 use mathlib.Core.Path.{_≡_, refl, sym, ap, _∙_}
-use mathlib.Core.List.{List, [], _∷_, flatMap, List·Memᴰ, List·Memᴰ·head, List·Memᴰ·tail}
+use mathlib.Core.List.{List, [], _∷_, map, flatMap, List·Memᴰ, List·Memᴰ·head, List·Memᴰ·tail}
 use mathlib.Core.Bool.{Bool, true, false, not, _&&_}
 use mathlib.Core.Option.{Option, none, some, Option·none-ne-some, Option·some-injective}
 use Prim.Native.Nat.{ℕ, _+_, _-_, _*_, _/_, _%_, _≤_, _<_}
@@ -110,7 +110,7 @@ module _ {v : Volume} {c : Change} {rs : List Rewritten} (d : Carrying v c rs) w
   apart-new = apart-after (c .object) rs (v .books .extents) units-all apart-old
 
   -- a mapped block is used, and so not new
-  mapped-used : (object block b : ℕ) → mapping (v .books .extents) object block ≡ some b → v .used b ≡ true
+  pub mapped-used : (object block b : ℕ) → mapping (v .books .extents) object block ≡ some b → v .used b ≡ true
   mapped-used object block b m =
       and-left (v .used b) (not (v .retired b)) (and-left (v .used b && not (v .retired b)) (leb (v .reserved) b)
       (mapping-all (mappable v) (v .books .extents) (mapped-all v (d .lawful .mapped)) object block b m))
@@ -131,6 +131,23 @@ module _ {v : Volume} {c : Change} {rs : List Rewritten} (d : Carrying v c rs) w
       ∙ test-cases ((if eqb o (c .object) then newMapping rs b (mapping (v .books .extents) o b) else mapping (v .books .extents) o b) ≡ mapping (v .books .extents) o b) (eqb o (c .object))
       (λ t. if-true (eqb o (c .object)) _ _ t ∙ newMapping-outside rs b (mapping (v .books .extents) o b) (outside-of b (h (eqb-true o (c .object) t))))
       (λ t. if-false (eqb o (c .object)) _ _ t)
+
+  -- so all blocks of such a unit
+  pub places-stay : (o u : ℕ) → (o ≡ c .object → Each (λ r. u ≡ r .unit → ⊥) rs)
+      → map (mapping (finishedExtents (c .object) rs (v .books .extents)) o) (range (u * unitBlocks) unitBlocks) ≡ map (mapping (v .books .extents) o) (range (u * unitBlocks) unitBlocks)
+  places-stay o u h =
+      map-each (mapping (finishedExtents (c .object) rs (v .books .extents)) o) (mapping (v .books .extents) o)
+      (each-weaken (λ b k. mapping-stays o b (λ e. each-weaken (λ r n z. n (omega (arith, k .0, k .1))) (h e))) (each-range (u * unitBlocks) unitBlocks))
+
+  -- a block of a rewritten unit is where the unit has it, and past those that it has there is none
+  pub mapping-moves : (r : Rewritten) → List·Memᴰ r rs → (i : ℕ) → i < unitBlocks
+      → mapping (finishedExtents (c .object) rs (v .books .extents)) (c .object) (r .unit * unitBlocks + i) ≡ getElem? (r .blocks) i
+  mapping-moves r m i l =
+      let e : (r .unit * unitBlocks + i) / unitBlocks ≡ r .unit = omega arith in
+      let z : (r .unit * unitBlocks + i) % unitBlocks ≡ i = omega arith in
+      mapping-after (c .object) rs (v .books .extents) units-all apart-old (c .object) (r .unit * unitBlocks + i)
+      ∙ if-true (eqb (c .object) (c .object)) _ _ (eq-eqb (c .object) (c .object) refl)
+      ∙ newMapping-mem rs (d .order) r m (r .unit * unitBlocks + i) _ e ∙ ap (getElem? (r .blocks)) z
 
   module _ (time : Time) (q : Progress) where
     -- the volume that is left
@@ -156,8 +173,7 @@ module _ {v : Volume} {c : Change} {rs : List Rewritten} (d : Carrying v c rs) w
         others (no n) = each-any (λ r z. absurd (n z)) rs
 
         blocks : unitMapping left o u unitBlocks ≡ unitMapping v o u unitBlocks
-        blocks = unfold unitMapping in map-each (mapping (left .books .extents) o) (mapping (v .books .extents) o)
-            (each-weaken (λ b k. mapping-stays o b (λ e. each-weaken (λ r n z. n (omega (arith, k .0, k .1))) (h e))) (each-range (u * unitBlocks) unitBlocks))
+        blocks = unfold unitMapping in places-stay o u h
 
     -- a rewritten unit has the array's new bytes
     pub unit-new : {xs ys us : List ℕ} {p : Progress} → Filling v c xs ys us p rs q → (r : Rewritten) → List·Memᴰ r rs → inspectUnit left (c .object) (c .newSize) (r .unit) ≡ checked (unitPart (r .unit) ys)
@@ -183,12 +199,7 @@ module _ {v : Volume} {c : Change} {rs : List Rewritten} (d : Carrying v c rs) w
         few = omega (arith, made-blocks k, valid-blocks (c .newSize) u)
 
         mapped : (i : ℕ) → i < length (r .blocks) → mapping (finishedExtents (c .object) rs (v .books .extents)) (c .object) (u * unitBlocks + i) ≡ some (getD (r .blocks) i 0)
-        mapped i l =
-            let e : (u * unitBlocks + i) / unitBlocks ≡ u = omega (arith, few) in
-            let z : (u * unitBlocks + i) % unitBlocks ≡ i = omega (arith, few) in
-            mapping-after (c .object) rs (v .books .extents) units-all apart-old (c .object) (u * unitBlocks + i)
-            ∙ if-true (eqb (c .object) (c .object)) _ _ (eq-eqb (c .object) (c .object) refl)
-            ∙ newMapping-mem rs (d .order) r m (u * unitBlocks + i) _ e ∙ ap (getElem? (r .blocks)) z ∙ getElem-some (r .blocks) i l
+        mapped i l = mapping-moves r m i (omega (arith, few)) ∙ getElem-some (r .blocks) i l
 
         blocks : (i : ℕ) → i < length (r .blocks) → blockAt (finishedImage rs (v .image)) (getD (r .blocks) i 0) ≡ padded blockBytes (part (i * blockBytes) blockBytes (unitPart u ys))
         blocks i l = go (getD (r .kept) i none) refl

@@ -29,7 +29,7 @@ use Rattle.rules.specs.Rewrite.Plan.{refused, planned}
 use Rattle.rules.specs.Finish.{finished}
 use Rattle.rules.specs.Call.{InRange, call}
 use Rattle.rules.specs.Call.Call.{write, grow}
-use Rattle.rules.specs.Plain.{File, change, overwrite, accepted, fileBytes, fileCreated}
+use Rattle.rules.specs.Plain.{File, change, overwrite, writeStep, accepted, fileBytes, fileCreated}
 use Rattle.rules.specs.Demand.{Place, placesOf, places, filePlaces, neverNumbers}
 use Rattle.rules.proofs.ListLaws.{if-true, if-false, and-left, find-mem, each-weaken}
 use Rattle.rules.proofs.CountLaws.{count-weaken}
@@ -44,12 +44,12 @@ use Rattle.history.proofs.ApartLaws.{laid-of}
 use Rattle.rules.proofs.KeptLaws.{there}
 use Rattle.history.proofs.PlaceCounts.{total, total-each, count-units}
 use Rattle.history.proofs.UnitLaws.{mapping-below, length-blockAt}
-use Rattle.history.proofs.ChangeLaws.{Becomes, write-becomes, grow-becomes, units-grow}
+use Rattle.history.proofs.ChangeLaws.{Becomes, write-becomes, grow-becomes}
 use Rattle.history.proofs.PlanLaws.{UnitRight, StaysHole, PlanIs, Enough, WantsBlocks, Known, plan-is, unitOld}
 use Rattle.history.proofs.AfterUnits.{Carrying, Filling}
 use Rattle.history.proofs.CardsAfter.{card-of-object}
 use Rattle.history.proofs.VolumeAfter.{CallRight}
-use Rattle.history.proofs.UnsharedLaws.{whole-image, few-blocks, card-in, known-own, FileChange, change-of-write, foundFirst, change-carrying, change-right, change-says}
+use Rattle.history.proofs.UnsharedLaws.{whole-image, few-blocks, card-in, FileChange, change-of-write, change-of-grow, foundFirst, change-carrying, change-right, change-says}
 use Rattle.history.proofs.AgreesAfter.{made-same, bytes-mine, bytes-theirs, files-after, blocks-after}
 use Rattle.history.proofs.MoreLists.{count-all, once-ascending}
 use Rattle.history.proofs.MoreBytes.{padded-whole}
@@ -175,7 +175,7 @@ module _ (files : List File) (reserved : ℕ) (s : Store) (b : StoreBytes s) (h 
       → ChangeOf files s card (growChange (card .object) (card .size) size) plainOf (padded size plainOf) (growUnits (growChange (card .object) (card .size) size))
   unfolding growChange
   grow-change size l = record {
-    file = record { known = known-own s object card known; size = refl; longer = omega (arith, l); units = units-grow (card .object) (card .size) size l };
+    file = change-of-grow s object card known size l;
     array = array-own;
     becomes = subst (λ (n : ℕ). Becomes (growChange (card .object) n size) plainOf (padded size plainOf)) (sym size-own) (grow-becomes (card .object) size plainOf (omega (arith, l, size-own)));
   }
@@ -219,8 +219,8 @@ inv-same files news reserved s e m h = record {
 -- an accepted write keeps it, with any limit of runs
 write-keeps : (limit object offset : ℕ) (bytes : List ℕ) (time : Time) (files : List File) (reserved : ℕ) (s : Store)
     → InRange (write object offset bytes time) → StoreBytes s → result s [] (writeOutcome limit object offset bytes time s) .number ≡ 0 → Inv files reserved s
-    → Inv (accepted (write object offset bytes time) files) reserved (result s [] (writeOutcome limit object offset bytes time s) .store)
-unfolding accepted
+    → Inv (writeStep object offset bytes files) reserved (result s [] (writeOutcome limit object offset bytes time s) .store)
+unfolding writeStep
 write-keeps limit object offset bytes time files reserved s i b e h = go (r .done)
   where
     o : Outcome

@@ -16,7 +16,7 @@ use Rattle.rules.specs.Refusal.{result}
 use Rattle.rules.specs.Book.{Books}
 use Rattle.rules.specs.Time.{Time}
 use Rattle.rules.specs.Lists.{maybe, given, any, find, filter, count, member}
-use Rattle.rules.specs.Sizes.{unitBytes, mostRuns}
+use Rattle.rules.specs.Sizes.{unitBytes, mostRuns, archiveRuns}
 use Rattle.rules.specs.Card.{Card}
 use Rattle.rules.specs.Store.{Store, StoreBytes, Volume, decode, cardOf, createdOf}
 use Rattle.rules.specs.Inspect.{checksumOf}
@@ -25,10 +25,10 @@ use Rattle.rules.specs.Enter.{newCard, entered}
 use Rattle.rules.specs.Settle.{settled}
 use Rattle.rules.specs.Call.{Look, Call, InRange, call}
 use Rattle.rules.specs.Call.Look.{read, readMany, dataStretches, fill}
-use Rattle.rules.specs.Call.Call.{fresh, enter, write, grow, settle, look}
+use Rattle.rules.specs.Call.Call.{fresh, enter, write, writeArchive, grow, settle, look}
 use Rattle.rules.specs.Act.{Act, ActInRange, act, actRefused, partsDone}
 use Rattle.rules.specs.Act.Act.{whole, batch}
-use Rattle.rules.specs.Plain.{File, accepted, actStep, fileBytes, fileCreated}
+use Rattle.rules.specs.Plain.{File, writeStep, accepted, actStep, fileBytes, fileCreated}
 use Rattle.rules.specs.Demand.{givenReserved, actReserved, placesOf, places, holders, filePlaces, neverNumbers, Sound, Demand3}
 use Rattle.rules.proofs.ListLaws.{given-some, maybe-some, find-yes, find-no, find-none}
 use Rattle.rules.proofs.PassLaws.{Passes, Lawful, Says, lawful-decode, room-decode}
@@ -37,10 +37,11 @@ use Rattle.rules.proofs.EnterLaws.{NoCard, card-entered, card-other, enter-acce
 use Rattle.rules.proofs.SettleLaws.{settle-says, look-stays}
 use Rattle.rules.proofs.BatchLaws.{accepted-number}
 use Rattle.history.proofs.HistoryLaws.{Never, demand3-from, never-fresh, never-enter, settle-number, fill-number, fresh-holders}
-use Rattle.history.proofs.HolderLaws.{SameFiles, inspect-same, files-entered, holders-settled, holders-entered, counts-entered}
+use Rattle.history.proofs.HolderLaws.{place-once, SameFiles, inspect-same, files-entered, holders-settled, holders-entered, counts-entered}
 use Rattle.history.proofs.ReadLaws.{ObjectIs, AllKnown, read-plain, read-never}
 use Rattle.history.proofs.ReadManyLaws.{many-plain, many-never}
 use Rattle.history.proofs.HoleLaws.{stretches-plain, stretches-never}
+use Rattle.history.proofs.StaysLaws.{call-stays}
 use Rattle.history.proofs.BatchHistory.{batch-keeps, batch-never}
 
 -- a unit at or past the end of its file, or of no file
@@ -261,7 +262,7 @@ all-known files reserved s h object = (h .filesAgree .objects object, h .filesAg
 pub record ChangesRight : Type 0 where
   pub writeKeeps : (limit object offset : ℕ) (bytes : List ℕ) (time : Time) (files : List File) (reserved : ℕ) (s : Store)
       → InRange (write object offset bytes time) → StoreBytes s → result s [] (writeOutcome limit object offset bytes time s) .number ≡ 0 → Inv files reserved s
-      → Inv (accepted (write object offset bytes time) files) reserved (result s [] (writeOutcome limit object offset bytes time s) .store)
+      → Inv (writeStep object offset bytes files) reserved (result s [] (writeOutcome limit object offset bytes time s) .store)
   pub growKeeps : (object size : ℕ) (time : Time) (files : List File) (reserved : ℕ) (s : Store)
       → InRange (grow object size time) → StoreBytes s → call (grow object size time) s .number ≡ 0 → Inv files reserved s
       → Inv (accepted (grow object size time) files) reserved (call (grow object size time) s .store)
@@ -286,6 +287,7 @@ module _ (w : ChangesRight) where
   keeps (fresh uuid n) files reserved s i b e h = inv-fresh s b uuid n i e
   keeps (enter object time) files reserved s i b e h = inv-enter object time files reserved s i b e h
   keeps (write object offset bytes time) files reserved s i b e h = w .writeKeeps mostRuns object offset bytes time files reserved s i b e h
+  keeps (writeArchive object offset bytes time) files reserved s i b e h = w .writeKeeps archiveRuns object offset bytes time files reserved s i b e h
   keeps (grow object size time) files reserved s i b e h = w .growKeeps object size time files reserved s i b e h
   keeps settle files reserved s i b e h = inv-settle files reserved s b e h
   keeps (look l) files reserved s i b e h = rw (look-stays l s) h
@@ -296,6 +298,7 @@ module _ (w : ChangesRight) where
   never-refused files reserved s b h (fresh uuid n) i = never-fresh uuid n s
   never-refused files reserved s b h (enter object time) i = never-enter s (h .passes) object time
   never-refused files reserved s b h (write object offset bytes time) i = w .writeNever mostRuns object offset bytes time files reserved s i b h
+  never-refused files reserved s b h (writeArchive object offset bytes time) i = w .writeNever archiveRuns object offset bytes time files reserved s i b h
   never-refused files reserved s b h (grow object size time) i = w .growNever object size time files reserved s i b h
   never-refused files reserved s b h settle i = ap (λ n. member n neverNumbers) (settle-number s (h .passes))
   never-refused files reserved s b h (look l) i = never-look files reserved s h l
@@ -331,6 +334,7 @@ module _ (w : ChangesRight) where
     onePlace = λ b l. h .blocksAgree .onePlace b (rw (room-decode s (h .passes) .blocks) l);
     counts = h .filesAgree .counts;
     created = h .filesAgree .created;
+    stays = call-stays b (λ n l. place-once reserved (decode s) n (h .blocksAgree .onePlace n l));
     never = never-stopped files reserved s b h;
   }
 

@@ -9,6 +9,7 @@
 --   ReadLaws           a read from its units: each unit, read, is what the plain array has there
 --   ReadManyLaws       many reads in one call, from that law of one read
 --   HoleLaws           a list of stretches leaves out nothing but zeros
+--   StaysLaws          a unit is where it was after a call, or what stayed of it is within the call's limit of runs; from the plan and what it leaves, below
 --   BatchHistory       a batch of writes, from what holds of each write
 --   Changes            write and grow, which `Invariant` leaves as a premise. An accepted one has a plan (FileCallLaws); then come
 --
@@ -65,6 +66,7 @@ pub mod PlaceCounts
 pub mod BalanceLaws
 pub mod VolumeAfter
 pub mod UnsharedLaws
+pub mod StaysLaws
 pub mod AgreesAfter
 pub mod MoreLists
 pub mod MoreBytes

@@ -32,7 +32,7 @@ use Rattle.rules.proofs.CountLaws.{Once}
 use Rattle.rules.proofs.AllocationLaws.{each-allocateData, length-allocateData, ascending-allocateData}
 use Rattle.history.proofs.ReadLaws.{UnitIs, is-hole, is-checked, FileIs}
 use Rattle.history.proofs.ImageAfter.{LaidOut}
-use Rattle.rules.proofs.KeptLaws.{there, Keeps, KeptFor, count-superseded, length-retained, retained-for, wanted-most}
+use Rattle.rules.proofs.KeptLaws.{there, Keeps, KeptFor, KeptRight, count-superseded, length-retained, retained-for, kept-right, wanted-most}
 use Rattle.history.proofs.PlaceCounts.{total}
 use Rattle.history.proofs.UnitLaws.{getD-mapped, CheckedUnit, checked-means, checked-block, valid-blocks}
 use Rattle.history.proofs.ChangeLaws.{Becomes, Stays, stays-checked, stays-zeros, stays-unread, assembled-is, valid-new, valid-old, untouched-zeros, settled-part, settled-whole}
@@ -197,24 +197,38 @@ module _ (limit : ℕ) (v : Volume) (c : Change) (u : ℕ) (p : Progress) where
         if-cases (StepIs v c Stop Hole Right p u) fullFor (stopped no-space) _ (λ t. full)
         (λ t. if-cases (StepIs v c Stop Hole Right p u) (countDisagrees (p .allocated) laidFrom) (stopped count-disagrees) (rewritten laidFrom) (wrong t) (λ d. (placed-from t, d, right)))
 
-  -- a unit that was read, where nothing is told of it
-  read-any : (i : Inspected) → StepIs v c Untold Untold Untold p u (afterRead limit v c u p i)
-  unfolding afterRead
-  read-any (damaged r) = tt
-  read-any hole = if-cases (StepIs v c Untold Untold Untold p u) (touches c u) _ untouched (λ t. from-is false [] Untold Untold Untold tt (λ f d. tt) tt) (λ t. tt)
-  read-any (checked old) = from-is true old Untold Untold Untold tt (λ f d. tt) tt
+  -- where something holds of whatever it can become, and nothing else is told
+  module _ (Right : Rewritten → Type 0) (right : (verified : Bool) (old : List ℕ) → Right (laidFrom verified old)) where
+    -- a unit that was read
+    read-any : (i : Inspected) → StepIs v c Untold Untold Right p u (afterRead limit v c u p i)
+    unfolding afterRead
+    read-any (damaged r) = tt
+    read-any hole =
+        if-cases (StepIs v c Untold Untold Right p u) (touches c u) _ untouched (λ t. from-is false [] Untold Untold Right tt (λ f d. tt) (right false [])) (λ t. tt)
+    read-any (checked old) = from-is true old Untold Untold Right tt (λ f d. tt) (right true old)
 
-  -- and any unit
-  unit-any : StepIs v c Untold Untold Untold p u (rewriteUnit limit v c u p)
-  unfolding rewriteUnit
-  unit-any =
-      if-cases (StepIs v c Untold Untold Untold p u) (readsOld c u) _ _
-      (λ t. read-any (inspectUnit v (c .object) (c .oldSize) u)) (λ t. from-is false [] Untold Untold Untold tt (λ f d. tt) tt)
+    -- and any unit
+    unit-any : StepIs v c Untold Untold Right p u (rewriteUnit limit v c u p)
+    unfolding rewriteUnit
+    unit-any =
+        if-cases (StepIs v c Untold Untold Right p u) (readsOld c u) _ _
+        (λ t. read-any (inspectUnit v (c .object) (c .oldSize) u)) (λ t. from-is false [] Untold Untold Right tt (λ f d. tt) (right false []))
 
 -- the units of any plan on any volume are placed, if it is carried out
 pub plan-any : (limit : ℕ) (v : Volume) (c : Change) (us : List ℕ) (p : Progress) → PlanIs v c Untold Untold Untold us p (rewriteUnits limit v c us p)
 plan-any limit v c us p =
-    plan-from v c Untold Untold Untold limit (λ us p. Unit {0}) (λ u us p e. tt) (λ u us p r d e. tt) (λ u us p e. unit-any limit v c u p) us p tt
+    plan-from v c Untold Untold Untold limit (λ us p. Unit {0}) (λ u us p e. tt) (λ u us p r d e. tt) (λ u us p e. unit-any limit v c u p Untold (λ b old. tt)) us p tt
+
+-- what a rewritten unit keeps is right, and in no more runs than the limit
+pub record KeepsRight (limit : ℕ) (v : Volume) (c : Change) (r : Rewritten) : Type 0 where
+  pub verified : Bool
+  pub right : KeptRight limit c (r .unit) verified (unitOld v c (r .unit)) (r .kept)
+
+-- so it is with all units of any plan
+pub plan-kept : (limit : ℕ) → 1 ≤ limit → (v : Volume) (c : Change) (us : List ℕ) (p : Progress) → PlanIs v c Untold Untold (KeepsRight limit v c) us p (rewriteUnits limit v c us p)
+plan-kept limit l v c us p =
+    plan-from v c Untold Untold (KeepsRight limit v c) limit (λ us p. Unit {0}) (λ u us p e. tt) (λ u us p r d e. tt)
+    (λ u us p e. unit-any limit v c u p (KeepsRight limit v c) (λ b old. unfold layOut in record { verified = b; right = kept-right limit l c u b (unitOld v c u) })) us p tt
 
 -- ---- where the file is known
 

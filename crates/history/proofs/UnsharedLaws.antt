@@ -18,7 +18,7 @@ use Rattle.rules.specs.Store.{Store, StoreBytes, Volume, decode, headOf, encode
 use Rattle.rules.specs.Integrity.{mappedBlocks}
 use Rattle.rules.specs.Refusal.{Outcome, result}
 use Rattle.rules.specs.Refusal.Outcome.{accept}
-use Rattle.rules.specs.Units.{Change, clipped, writeChange, writeUnits}
+use Rattle.rules.specs.Units.{Change, clipped, writeChange, growChange, writeUnits, growUnits}
 use Rattle.rules.specs.Rewrite.{Progress, rewriteUnits}
 use Rattle.rules.specs.Finish.{finished}
 use Rattle.rules.specs.Write.{planOf, writeOutcome}
@@ -34,7 +34,7 @@ use Rattle.rules.proofs.BytesKept.{write-bytes}
 use Rattle.history.proofs.FileCallLaws.{FileCall, Carried, Written, write-accepted}
 use Rattle.history.proofs.ExtentsFromPlaces.{mapped-count}
 use Rattle.history.proofs.CardsAfter.{card-of-object}
-use Rattle.history.proofs.ChangeLaws.{UnitsOf, units-write}
+use Rattle.history.proofs.ChangeLaws.{UnitsOf, units-write, units-grow}
 use Rattle.history.proofs.PlanLaws.{Untold, Planned, PlanIs, plan-any}
 use Rattle.history.proofs.PlannedLaws.{planned-most, planned-hint}
 use Rattle.history.proofs.AfterUnits.{Carrying, carrying}
@@ -98,6 +98,13 @@ change-of-write s object card known offset bytes n = record {
   where
     some : 0 < length (clipped bytes)
     some = unfold clipped in omega (arith, length-take mostTransfer bytes, n)
+
+-- that of a grow
+pub change-of-grow : (s : Store) (object : ℕ) (card : Card) → cardOf (decode s) object ≡ some card → (size : ℕ) → card .size < size
+    → FileChange s card (growChange (card .object) (card .size) size) (growUnits (growChange (card .object) (card .size) size))
+unfolding growChange
+change-of-grow s object card known size l =
+    record { known = known-own s object card known; size = refl; longer = omega (arith, l); units = units-grow (card .object) (card .size) size l }
 
 -- what the first unit of a change finds
 abbrev pub foundFirst : Store → Card → Progress

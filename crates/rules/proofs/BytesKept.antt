@@ -7,7 +7,7 @@ use Prim.Native.Nat.{ℕ, suc, _-_, _*_}
 use lib.Dec.{eqb}
 use lib.ListN.{length}
 use Rattle.rules.specs.Lists.{maybe}
-use Rattle.rules.specs.Sizes.{blockBytes, unitBytes, mostRuns, mostTransfer}
+use Rattle.rules.specs.Sizes.{blockBytes, unitBytes, mostRuns, archiveRuns, mostTransfer}
 use Rattle.rules.specs.Bytes.{Bytes, part, padded}
 use Rattle.rules.specs.Time.{Time}
 use Rattle.rules.specs.Card.{Card}
@@ -28,7 +28,7 @@ use Rattle.rules.specs.Enter.{newCard, entered, enterOutcome}
 use Rattle.rules.specs.Settle.{settled, settleOutcome}
 use Rattle.rules.specs.Write.{planOf, carriedOut, writeFile, writeOutcome, growFile, growOutcome}
 use Rattle.rules.specs.Call.{Call, InRange, call}
-use Rattle.rules.specs.Call.Call.{fresh, enter, write, grow, settle, look}
+use Rattle.rules.specs.Call.Call.{fresh, enter, write, writeArchive, grow, settle, look}
 use Rattle.rules.proofs.ListLaws.{if-cases, maybe-cases, Each, each-none, each-more, each-any}
 use Rattle.rules.proofs.ByteLaws.{bytes-nil, bytes-append, bytes-take, bytes-part, bytes-patch, bytes-padded}
 use Rattle.rules.proofs.PassLaws.{bytes-encodeInto}
@@ -198,6 +198,7 @@ bytes-kept (fresh uuid reserved) s i b = tested s b [] _ _ (bytes-encodeInto s (
 bytes-kept (enter object time) s i b =
     tested s b [] _ _ (tested s b [] _ _ (bytes-encodeInto s (entered (newCard object time) (decode s)) (unfold entered in uuid-bytes s b) (unfold entered decode decodeWith in b .image)))
 bytes-kept (write object offset bytes time) s i b = write-bytes s b mostRuns object offset bytes time (i .2)
+bytes-kept (writeArchive object offset bytes time) s i b = write-bytes s b archiveRuns object offset bytes time (i .2)
 bytes-kept (grow object size time) s i b =
     tested s b [] _ _ (carded s b object _ (λ c. tested s b [] _ _ (if-cases (LeavesBytes s []) (eqb size (c .size)) _ _ (λ e. b)
     (λ e. tested s b [] _ _ (change-bytes s b mostRuns _ _ (growChange (c .object) (c .size) size) c time (unfold growChange in bytes-nil))))))

@@ -2,17 +2,18 @@
 -- Assumes nothing.
 use mathlib.Core.Path.{_≡_, refl, sym, ap, _∙_}
 use mathlib.Core.List.{List, [], _∷_}
-use mathlib.Core.Bool.{Bool, true, not, _&&_}
+use mathlib.Core.Bool.{Bool, true, false, not, _&&_}
 use mathlib.Core.Option.{Option, none, some, Option·none-ne-some, Option·some-injective}
-use Prim.Native.Nat.{ℕ, zero, suc, _+_, _≤_, _<_}
+use Prim.Native.Nat.{ℕ, zero, suc, _+_, _*_, _≤_, _<_, min}
 use native.Mathlib.Nat.{zero-add}
 use native.Mathlib.Decide.{decLt}
 use native.Mathlib.Omega.{arith}
 use lib.Dec.{leb}
-use borrow.Author.Tests.{leb-true}
+use borrow.Author.Tests.{leb-true, not-true}
 use lib.ListN.{length, getD, replicate, length-map, length-replicate, List·getD-eq-default}
 use Rattle.rules.specs.Lists.{if_then_else_, given, range, count}
-use Rattle.rules.specs.Units.{Change}
+use Rattle.rules.specs.Sizes.{blockBytes, unitBytes}
+use Rattle.rules.specs.Units.{Change, validLength, writtenIn}
 use Rattle.rules.specs.Kept.{intact, continues, blocksAfter, candidates, runs, withinLimit, retainedBlocks, wanted, assigned, superseded}
 use Rattle.rules.proofs.ListLaws.{getD-same, if-cases, and-left, and-right, count-yes, count-no, count-le, length-range, getD-map-range}
 use Rattle.rules.proofs.CountLaws.{count-cons, count-nil}
@@ -161,10 +162,51 @@ runs-none zero = omega arith
 runs-none (suc zero) = omega arith
 runs-none (suc (suc n)) = omega (arith, runs-none (suc n))
 
--- what is kept of a unit forms no more runs than the limit. A limit of 0 is none: a unit of which nothing is kept is one run
-pub retained-runs : (limit : ℕ) → 1 ≤ limit → (c : Change) (unit : ℕ) (verified : Bool) (old : List (Option ℕ)) → runs (retainedBlocks limit c unit verified old) ≤ limit
+-- what is kept of a unit forms no more runs than the limit
+retained-runs : (limit : ℕ) → 1 ≤ limit → (c : Change) (unit : ℕ) (verified : Bool) (old : List (Option ℕ)) → runs (retainedBlocks limit c unit verified old) ≤ limit
 unfolding retainedBlocks withinLimit
 retained-runs limit l c unit verified old =
     let ks : List (Option ℕ) = candidates c unit verified old in
     if-cases (λ (xs : List (Option ℕ)). runs xs ≤ limit) (leb (runs ks) limit) ks (replicate (length ks) none)
     (λ e. leb-true (runs ks) limit e) (λ e. omega (arith, l, runs-none (length ks)))
+
+-- ---- the fact about kept blocks
+
+-- what is kept of a unit's old blocks, and in at most so many runs
+pub record KeptRight (limit : ℕ) (c : Change) (unit : ℕ) (verified : Bool) (old kept : List (Option ℕ)) : Type 0 where
+  -- an entry for each block that the unit has after the change
+  pub many : length kept ≡ blocksAfter c unit
+  -- a kept block is an old one in its place
+  pub place : Keeps kept old
+  -- of a unit that was checked
+  pub checked : (i p : ℕ) → getD kept i none ≡ some p → verified ≡ true
+  -- inside both lengths
+  pub inside : (i p : ℕ) → getD kept i none ≡ some p → suc i * blockBytes ≤ min (validLength (c .oldSize) unit) (validLength (c .newSize) unit)
+  -- and unwritten
+  pub unwritten : (i p : ℕ) → getD kept i none ≡ some p → writtenIn c (unit * unitBytes + i * blockBytes) (unit * unitBytes + suc i * blockBytes) ≡ false
+  pub few : runs kept ≤ limit
+
+-- what an intact block is
+intact-means : (c : Change) (unit i : ℕ) → intact c unit i ≡ true
+    → (suc i * blockBytes ≤ min (validLength (c .oldSize) unit) (validLength (c .newSize) unit))
+    × (writtenIn c (unit * unitBytes + i * blockBytes) (unit * unitBytes + suc i * blockBytes) ≡ false)
+unfolding intact
+intact-means c unit i t =
+    let valid : ℕ = min (validLength (c .oldSize) unit) (validLength (c .newSize) unit) in
+    let written : Bool = writtenIn c (unit * unitBytes + i * blockBytes) (unit * unitBytes + suc i * blockBytes) in
+    (leb-true (suc i * blockBytes) valid (and-left (leb (suc i * blockBytes) valid) (not written) t), not-true written (and-right (leb (suc i * blockBytes) valid) (not written) t))
+
+-- W-207: "The fact about kept blocks is to be proved for a limit from 1 to 4, and both callers use it." It holds for every limit from 1 on; a limit of 0 is
+-- none, since a unit of which nothing is kept is one run
+pub kept-right : (limit : ℕ) → 1 ≤ limit → (c : Change) (unit : ℕ) (verified : Bool) (old : List (Option ℕ)) → KeptRight limit c unit verified old (retainedBlocks limit c unit verified old)
+kept-right limit l c unit verified old = record {
+  many = length-retained limit c unit verified old;
+  place = λ i p e. why i p e .old;
+  checked = λ i p e. why i p e .checked;
+  inside = λ i p e. intact-means c unit i (why i p e .unwritten) .0;
+  unwritten = λ i p e. intact-means c unit i (why i p e .unwritten) .1;
+  few = retained-runs limit l c unit verified old;
+}
+  where
+    why : (i p : ℕ) → getD (retainedBlocks limit c unit verified old) i none ≡ some p → KeptFor c unit verified old i p
+    why = retained-for limit c unit verified old

@@ -20,6 +20,7 @@ pub mod FillCases
 pub mod CardCases
 pub mod BatchCases
 pub mod StretchCases
+pub mod ArchiveCases
 pub mod Refused
 pub mod PassLaws
 pub mod OutcomeLaws

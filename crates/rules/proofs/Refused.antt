@@ -11,7 +11,7 @@ use Rattle.rules.specs.Refusal.Refusal.{wrong-length, broken-rule, no-ca
 use Rattle.rules.specs.Refusal.Outcome.{refuse, accept}
 use Rattle.rules.specs.Call.{Call, call}
 use Rattle.rules.specs.Call.Look.{read, readMany, dataStretches, fill}
-use Rattle.rules.specs.Call.Call.{fresh, enter, write, grow, settle, look}
+use Rattle.rules.specs.Call.Call.{fresh, enter, write, writeArchive, grow, settle, look}
 
 -- document 01's numbers are 1 to 16, and document 02's go on from there
 pub record Numbered (n : ℕ) : Type 0 where
@@ -58,6 +58,7 @@ unfoldable pub lentOut : Call → List ℕ
 lentOut (fresh uuid reserved) = []
 lentOut (enter object time) = []
 lentOut (write object offset bytes time) = []
+lentOut (writeArchive object offset bytes time) = []
 lentOut (grow object size time) = []
 lentOut settle = []
 lentOut (look (read object offset out)) = out
@@ -71,6 +72,7 @@ unfolding call lentOut
 call-cases (fresh uuid reserved) s = result-cases s [] _
 call-cases (enter object time) s = result-cases s [] _
 call-cases (write object offset bytes time) s = result-cases s [] _
+call-cases (writeArchive object offset bytes time) s = result-cases s [] _
 call-cases (grow object size time) s = result-cases s [] _
 call-cases settle s = result-cases s [] _
 call-cases (look (read object offset out)) s = result-cases s out _

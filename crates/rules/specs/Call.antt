@@ -2,7 +2,7 @@
 -- Assumes nothing.
 use mathlib.Core.List.{List, [], _∷_}
 use Prim.Native.Nat.{ℕ, _<_, _^_}
-use Rattle.rules.specs.Sizes.{mostRuns}
+use Rattle.rules.specs.Sizes.{mostRuns, archiveRuns}
 use Rattle.rules.specs.Bytes.{Bytes}
 use Rattle.rules.specs.Time.{Time}
 use Rattle.rules.specs.Store.{Store}
@@ -27,6 +27,7 @@ pub data Call : Type 0 where
   fresh : (uuid : List ℕ) (reserved : ℕ) → Call
   enter : (object : ℕ) (time : Time) → Call
   write : (object offset : ℕ) (bytes : List ℕ) (time : Time) → Call
+  writeArchive : (object offset : ℕ) (bytes : List ℕ) (time : Time) → Call
   grow : (object size : ℕ) (time : Time) → Call
   settle : Call
   look : Look → Call
@@ -51,16 +52,18 @@ abbrev pub InRange : Call → Type 0
 InRange (fresh uuid reserved) = Bytes uuid × Word reserved
 InRange (enter object time) = Word object × WordTime time
 InRange (write object offset bytes time) = Word object × Word offset × Bytes bytes × WordTime time
+InRange (writeArchive object offset bytes time) = Word object × Word offset × Bytes bytes × WordTime time
 InRange (grow object size time) = Word object × Word size × WordTime time
 InRange settle = Unit {0}
 InRange (look l) = LookInRange l
 
--- what a call gives: what a write keeps of a unit is held to `mostRuns`; reads and lists of stretches alone lend a buffer besides the store that they may
--- change
+-- what a call gives: what a write keeps of a unit is held to `mostRuns`, and that is all in which an archive writer's is another; reads and lists of
+-- stretches alone lend a buffer besides the store that they may change
 unfoldable pub call : Call → Store → Result
 call (fresh uuid reserved) s = result s [] (freshOutcome uuid reserved s)
 call (enter object time) s = result s [] (enterOutcome object time s)
 call (write object offset bytes time) s = result s [] (writeOutcome mostRuns object offset bytes time s)
+call (writeArchive object offset bytes time) s = result s [] (writeOutcome archiveRuns object offset bytes time s)
 call (grow object size time) s = result s [] (growOutcome object size time s)
 call settle s = result s [] (settleOutcome s)
 call (look (read object offset out)) s = result s out (readOutcome object offset out s)

@@ -20,9 +20,10 @@ use Rattle.rules.specs.ReadMany.{different}
 use Rattle.rules.specs.Stretches.{Stretch, stretchBytes, decodeStretch, liesIn}
 use Rattle.rules.specs.Call.{Call, InRange, call}
 use Rattle.rules.specs.Call.Look.{read, readMany, dataStretches}
-use Rattle.rules.specs.Call.Call.{fresh, enter, write, grow, settle, look}
+use Rattle.rules.specs.Call.Call.{fresh, enter, write, writeArchive, grow, settle, look}
 use Rattle.rules.specs.Act.{Act, ActInRange, act, actRefused, partsDone}
 use Rattle.rules.specs.Act.Act.{whole, batch}
+use Rattle.rules.specs.Stays.{StaysWithin, keptRuns}
 use Rattle.rules.specs.Plain.{Fed, File, plain, fileBytes, fileCreated, plainRead, plainMany, plainPairs}
 
 -- ---- a list of calls
@@ -42,6 +43,7 @@ unfoldable pub givenReserved : Call → ℕ → ℕ
 givenReserved (fresh uuid reserved) n = reserved
 givenReserved (enter object time) n = n
 givenReserved (write object offset bytes time) n = n
+givenReserved (writeArchive object offset bytes time) n = n
 givenReserved (grow object size time) n = n
 givenReserved settle n = n
 givenReserved (look l) n = n
@@ -122,8 +124,8 @@ abbrev pub neverNumbers : List ℕ
 neverNumbers = 2 ∷ 9 ∷ 10 ∷ 11 ∷ 12 ∷ 14 ∷ []
 
 -- a store that calls left, the plain arrays after the same calls, and the number given to the last accepted fresh. Four clauses are the demand's
--- own, W-201's is the first of them for many reads, W-206's is about what no stretch lists, and W-205's about the time on each card that no later call
--- sets; plain arrays, places, reserved and retired are as document 01 defines them
+-- own, W-201's is the first of them for many reads, W-206's is about what no stretch lists, W-205's about the time on each card that no later call
+-- sets, and W-207's about what a call keeps of a unit; plain arrays, places, reserved and retired are as document 01 defines them
 pub record Sound (files : List File) (reserved : ℕ) (s : Store) : Type 0 where
   -- "reads give the plain array's bytes": every read that is accepted, from any place into any buffer
   pub reads : (object offset : ℕ) (out : List ℕ) → InRange (look (read object offset out)) → call (look (read object offset out)) s .number ≡ 0
@@ -140,6 +142,8 @@ pub record Sound (files : List File) (reserved : ℕ) (s : Store) : Type 0 where
   pub counts : (c : Card) → List·Memᴰ c (decode s .books .cards) → c .allocated ≡ filePlaces (decode s) (c .object)
   -- there is a card for each plain array and for nothing else, and it says when the file was entered, whatever was done to it since
   pub created : (object : ℕ) → createdOf (decode s) object ≡ fileCreated files object
+  -- W-207: every call that is accepted leaves each unit where it was, or what stays of it in no more runs than the call's limit
+  pub stays : (c : Call) → InRange c → call c s .number ≡ 0 → StaysWithin (keptRuns c) (decode s) (decode (call c s .store))
   -- "refusals 2, 9 to 12 and 14 never come": not to any call that could be the next, and no batch is stopped by one of them
   pub never : (a : Act) → ActInRange a → member (act a s .number) neverNumbers ≡ false
 

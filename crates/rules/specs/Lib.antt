@@ -33,5 +33,6 @@ pub mod Settle
 pub mod Call
 pub mod Act
 pub mod Plain
+pub mod Stays
 pub mod Demand
 pub mod Answers

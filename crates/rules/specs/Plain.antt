@@ -13,7 +13,7 @@ use Rattle.rules.specs.Time.{Time}
 use Rattle.rules.specs.Triples.{Triple, decodeTriples}
 use Rattle.rules.specs.ReadMany.{Pair, pairsOf}
 use Rattle.rules.specs.Call.{Call}
-use Rattle.rules.specs.Call.Call.{fresh, enter, write, grow, settle, look}
+use Rattle.rules.specs.Call.Call.{fresh, enter, write, writeArchive, grow, settle, look}
 use Rattle.rules.specs.Act.{Act}
 use Rattle.rules.specs.Act.Act.{whole, batch}
 
@@ -38,14 +38,18 @@ change object f files = map (λ a. if eqb (a .object) object then record { objec
 unfoldable pub overwrite : ℕ → List ℕ → List ℕ → List ℕ
 overwrite offset new old = patch (padded offset old) offset new
 
+-- write's step: "empty, no change; else the first 1,048,576 bytes at most [..]"
+unfoldable pub writeStep : ℕ → ℕ → List ℕ → List File → List File
+writeStep object offset bytes files = if eqb (length bytes) 0 then files else change object (overwrite offset (take mostTransfer bytes)) files
+
 -- the step of an accepted call.
--- "Fresh: none again. Enter: its object, no bytes. Write: empty, no change; else the first 1,048,576 bytes at most [..]. Grow: zeros up to the
--- new size. Read, settle, fill [..]: no change."; so many reads in one call, and a list of stretches
+-- "Fresh: none again. Enter: its object, no bytes. [..] Grow: zeros up to the new size. Read, settle, fill [..]: no change."; so many reads in one call,
+-- and a list of stretches. W-207: "In the plain arrays it takes write's step."
 unfoldable pub accepted : Call → List File → List File
 accepted (fresh uuid reserved) files = []
 accepted (enter object time) files = record { object = object; created = time; bytes = [] } ∷ files
-accepted (write object offset bytes time) files =
-    if eqb (length bytes) 0 then files else change object (overwrite offset (take mostTransfer bytes)) files
+accepted (write object offset bytes time) files = writeStep object offset bytes files
+accepted (writeArchive object offset bytes time) files = writeStep object offset bytes files
 accepted (grow object size time) files = change object (padded size) files
 accepted settle files = files
 accepted (look l) files = files

@@ -57,3 +57,7 @@ mostTransfer = 1048576
 -- "If the unit's blocks then form over four runs, none is kept."
 abbrev pub mostRuns : ℕ
 mostRuns = 4
+
+-- W-207: "in which a unit keeps old blocks only at two runs or fewer"
+abbrev pub archiveRuns : ℕ
+archiveRuns = 2

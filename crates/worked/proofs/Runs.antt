@@ -1,5 +1,5 @@
 -- Kept and new blocks side by side, computed by the checker: what counts as one run and what breaks it, four runs and five, and what a whole write
--- leaves where it falls between blocks that are kept.
+-- leaves where it falls between blocks that are kept, a simulator's and the archive writer's.
 -- Assumes nothing.
 use mathlib.Core.Path.{_≡_, refl, ap}
 use mathlib.Core.List.{List, [], _∷_, map}
@@ -7,14 +7,14 @@ use mathlib.Core.Bool.{true, false, _||_}
 use mathlib.Core.Option.{Option, none, some}
 use Prim.Native.Nat.{ℕ, _*_}
 use lib.Dec.{eqb}
-use lib.ListN.{length, replicate}
+use lib.ListN.{replicate}
 use Rattle.rules.specs.Lists.{if_then_else_, member}
-use Rattle.rules.specs.Sizes.{mostRuns}
+use Rattle.rules.specs.Sizes.{mostRuns, archiveRuns}
 use Rattle.rules.specs.Extent.{Extent}
 use Rattle.rules.specs.Group.{emptyGroup, setChecksumSlot}
 use Rattle.rules.specs.Time.{Time}
 use Rattle.rules.specs.Store.{Store, Volume}
-use Rattle.rules.specs.Refusal.{Outcome, Result, firstOf, result}
+use Rattle.rules.specs.Refusal.{firstOf, result}
 use Rattle.rules.specs.Arguments.{pastLimit, belowSize, timeWrong}
 use Rattle.rules.specs.Integrity.{mappedBlocks}
 use Rattle.rules.specs.Units.{Change, writeChange, growChange, writeUnits, growUnits}
@@ -80,11 +80,11 @@ counted = record {
 
 -- ---- a whole write, whatever the file's bytes are and their checksum is
 
--- a volume of twelve blocks, block 0 reserved, with file 7 of five full blocks in these extents
-pub fiveBlocks : (uuid image : List ℕ) → ℕ → List Extent → Volume
-fiveBlocks uuid image crc es = record {
+-- a volume of so many blocks, block 0 reserved, with file 7 of five full blocks in these extents
+pub fiveOf : ℕ → (uuid image : List ℕ) → ℕ → List Extent → Volume
+fiveOf blocks uuid image crc es = record {
   uuid = uuid;
-  blocks = 12;
+  blocks = blocks;
   reserved = 1;
   hint = 0;
   books = record { cards = card 20480 5 12 13 ∷ []; extents = es; groups = setChecksumSlot (emptyGroup 7 0) 0 (some crc) ∷ [] };
@@ -92,6 +92,10 @@ fiveBlocks uuid image crc es = record {
   retired = λ n. false;
   image = image;
 }
+
+-- one of twelve blocks
+pub fiveBlocks : (uuid image : List ℕ) → ℕ → List Extent → Volume
+fiveBlocks = fiveOf 12
 
 -- what its first unit finds
 pub start : Progress
@@ -102,12 +106,12 @@ pub told : List Extent → Plan → ℕ × List (List (Option ℕ)) × List ℕ 
 told es p =
     (planNumber p, map (λ r. r .kept) (planUnits p), newBlocks (planUnits p), supersededBlocks (planUnits p), finishedExtents 7 (planUnits p) es, planAllocated p)
 
--- the plan of a write, and the same where the unit's reading is given
-pub planned : Volume → Change → Plan
-planned v c = rewriteUnits mostRuns v c (writeUnits c) start
+-- the plan of a write with this limit, and the same where the unit's reading is given
+pub planned : ℕ → Volume → Change → Plan
+planned limit v c = rewriteUnits limit v c (writeUnits c) start
 
-pub fromRead : Volume → Change → Inspected → Plan
-fromRead v c i = andThen start (afterRead mostRuns v c 0 start i) (λ q. rewriteUnits mostRuns v c [] q)
+pub fromRead : ℕ → Volume → Change → Inspected → Plan
+fromRead limit v c i = andThen start (afterRead limit v c 0 start i) (λ q. rewriteUnits limit v c [] q)
 
 -- file 7 at the device's blocks 1, 3, 5, 6 and 8, and at 1 to 5
 pub scattered : List Extent
@@ -118,7 +122,7 @@ straight = extent 0 1 5 ∷ []
 
 -- where the old unit was checked, two bytes across the third and fourth block leave four runs: the two move to blocks 2 and 4
 pub four-runs : (uuid image old : List ℕ) (crc : ℕ) → inspectUnit (fiveBlocks uuid image crc scattered) 7 20480 0 ≡ checked old
-    → told scattered (planned (fiveBlocks uuid image crc scattered) (into 12287 2))
+    → told scattered (planned mostRuns (fiveBlocks uuid image crc scattered) (into 12287 2))
     ≡ (
       0,
       (some 1 ∷ some 3 ∷ none ∷ none ∷ some 8 ∷ []) ∷ [],
@@ -127,12 +131,12 @@ pub four-runs : (uuid image old : List ℕ) (crc : ℕ) → inspectUnit (fiveBlo
       extent 0 1 1 ∷ extent 1 3 1 ∷ extent 2 2 1 ∷ extent 3 4 1 ∷ extent 4 8 1 ∷ [],
       some 5,
     )
-unfolding computed into told planned fromRead fiveBlocks start scattered
-four-runs uuid image old crc h = ap (λ i. told scattered (fromRead (fiveBlocks uuid image crc scattered) (into 12287 2) i)) h
+unfolding computed into told planned fromRead fiveOf fiveBlocks start scattered
+four-runs uuid image old crc h = ap (λ i. told scattered (fromRead mostRuns (fiveBlocks uuid image crc scattered) (into 12287 2) i)) h
 
 -- a byte into the third alone leaves five: all five move, to the first free blocks
 pub five-runs : (uuid image old : List ℕ) (crc : ℕ) → inspectUnit (fiveBlocks uuid image crc scattered) 7 20480 0 ≡ checked old
-    → told scattered (planned (fiveBlocks uuid image crc scattered) (into 8192 1))
+    → told scattered (planned mostRuns (fiveBlocks uuid image crc scattered) (into 8192 1))
     ≡ (
       0,
       (none ∷ none ∷ none ∷ none ∷ none ∷ []) ∷ [],
@@ -141,17 +145,45 @@ pub five-runs : (uuid image old : List ℕ) (crc : ℕ) → inspectUnit (fiveBlo
       extent 0 2 1 ∷ extent 1 4 1 ∷ extent 2 7 1 ∷ extent 3 9 2 ∷ [],
       some 5,
     )
-unfolding computed into told planned fromRead fiveBlocks start scattered
-five-runs uuid image old crc h = ap (λ i. told scattered (fromRead (fiveBlocks uuid image crc scattered) (into 8192 1) i)) h
+unfolding computed into told planned fromRead fiveOf fiveBlocks start scattered
+five-runs uuid image old crc h = ap (λ i. told scattered (fromRead mostRuns (fiveBlocks uuid image crc scattered) (into 8192 1) i)) h
 
 -- kept, new, kept: one extent is cut in three
 pub three-runs : (uuid image old : List ℕ) (crc : ℕ) → inspectUnit (fiveBlocks uuid image crc straight) 7 20480 0 ≡ checked old
-    → told straight (planned (fiveBlocks uuid image crc straight) (into 8192 1))
+    → told straight (planned mostRuns (fiveBlocks uuid image crc straight) (into 8192 1))
     ≡ (0, (some 1 ∷ some 2 ∷ none ∷ some 4 ∷ some 5 ∷ []) ∷ [], 6 ∷ [], 3 ∷ [], extent 0 1 2 ∷ extent 2 6 1 ∷ extent 3 4 2 ∷ [], some 5)
-unfolding computed into told planned fromRead fiveBlocks start straight
-three-runs uuid image old crc h = ap (λ i. told straight (fromRead (fiveBlocks uuid image crc straight) (into 8192 1) i)) h
+unfolding computed into told planned fromRead fiveOf fiveBlocks start straight
+three-runs uuid image old crc h = ap (λ i. told straight (fromRead mostRuns (fiveBlocks uuid image crc straight) (into 8192 1) i)) h
 
--- ---- the limit that the calls give is four
+-- ---- W-207: the archive writer, on the same stores
+
+-- kept, new, kept are over its limit: all five move, and lie in one piece again
+pub archive-middle : (uuid image old : List ℕ) (crc : ℕ) → inspectUnit (fiveBlocks uuid image crc straight) 7 20480 0 ≡ checked old
+    → told straight (planned archiveRuns (fiveBlocks uuid image crc straight) (into 8192 1))
+    ≡ (0, (none ∷ none ∷ none ∷ none ∷ none ∷ []) ∷ [], 6 ∷ 7 ∷ 8 ∷ 9 ∷ 10 ∷ [], 1 ∷ 2 ∷ 3 ∷ 4 ∷ 5 ∷ [], extent 0 6 5 ∷ [], some 5)
+unfolding computed into told planned fromRead fiveOf fiveBlocks start straight
+archive-middle uuid image old crc h = ap (λ i. told straight (fromRead archiveRuns (fiveBlocks uuid image crc straight) (into 8192 1) i)) h
+
+-- at the unit's edge it keeps what a simulator's write keeps
+pub archive-edge : (uuid image old : List ℕ) (crc : ℕ) → inspectUnit (fiveBlocks uuid image crc straight) 7 20480 0 ≡ checked old
+    → told straight (planned archiveRuns (fiveBlocks uuid image crc straight) (into 0 1))
+    ≡ (0, (none ∷ some 2 ∷ some 3 ∷ some 4 ∷ some 5 ∷ []) ∷ [], 6 ∷ [], 1 ∷ [], extent 0 6 1 ∷ extent 1 2 4 ∷ [], some 5)
+unfolding computed into told planned fromRead fiveOf fiveBlocks start straight
+archive-edge uuid image old crc h = ap (λ i. told straight (fromRead archiveRuns (fiveBlocks uuid image crc straight) (into 0 1) i)) h
+
+-- it wants more blocks: where four are free a simulator's write is accepted and this one refused by 13
+pub four-free : (uuid image old : List ℕ) (crc : ℕ) → inspectUnit (fiveOf 10 uuid image crc straight) 7 20480 0 ≡ checked old
+    → told straight (planned mostRuns (fiveOf 10 uuid image crc straight) (into 8192 1))
+    ≡ (0, (some 1 ∷ some 2 ∷ none ∷ some 4 ∷ some 5 ∷ []) ∷ [], 6 ∷ [], 3 ∷ [], extent 0 1 2 ∷ extent 2 6 1 ∷ extent 3 4 2 ∷ [], some 5)
+unfolding computed into told planned fromRead fiveOf start straight
+four-free uuid image old crc h = ap (λ i. told straight (fromRead mostRuns (fiveOf 10 uuid image crc straight) (into 8192 1) i)) h
+
+pub archive-full : (uuid image old : List ℕ) (crc : ℕ) → inspectUnit (fiveOf 10 uuid image crc straight) 7 20480 0 ≡ checked old
+    → planNumber (planned archiveRuns (fiveOf 10 uuid image crc straight) (into 8192 1)) ≡ 13
+unfolding computed into planned fromRead fiveOf start straight
+archive-full uuid image old crc h = ap (λ i. planNumber (fromRead archiveRuns (fiveOf 10 uuid image crc straight) (into 8192 1) i)) h
+
+-- ---- the limit that these calls give is four; the archive writer's stands in `rules`, beside its other cases
 
 pub write-limit : (object offset : ℕ) (xs : List ℕ) (t : Time) (s : Store)
     → call (write object offset xs t) s ≡ result s [] (writeOutcome 4 object offset xs t s)
