@@ -3,13 +3,13 @@
 use mathlib.Core.Path.{_≡_}
 use mathlib.Core.List.{List, []}
 use Prim.Native.Nat.{ℕ}
-use Rattle.rules.specs.Sizes.{mostRuns}
+use Rattle.rules.specs.Sizes.{mostRuns, archiveRuns}
 use Rattle.rules.specs.Time.{Time}
 use Rattle.rules.specs.Store.{Store, StoreBytes}
 use Rattle.rules.specs.Refusal.{result}
 use Rattle.rules.specs.Write.{writeOutcome, growOutcome}
 use Rattle.rules.specs.Call.{call}
-use Rattle.rules.specs.Call.Call.{write, grow}
+use Rattle.rules.specs.Call.Call.{write, writeArchive, grow}
 use Rattle.intake.specs.Join.{storeNumber}
 use Rattle.intake.proofs.JoinLaws.{stopped, not-stopped}
 use Rattle.write.specs.Call.{StoreReady, answered}
@@ -21,15 +21,20 @@ store-ready s n e z b = record { passes = not-stopped s n e z; lent-bytes = b }
 
 -- a write
 module _ (object offset : ℕ) (bytes : List ℕ) (time : Time) (s : Store) where
-  -- refusals 1 and 2
-  pub write-stopped : (n : ℕ) → n ≡ storeNumber s → (n ≡ 0 → ⊥) → gave n 0 s ≡ call (write object offset bytes time) s
-  unfolding call writeOutcome
-  write-stopped n e z = stopped s [] _ n e z
+  -- refusals 1 and 2, with any limit of runs
+  pub write-stopped : (limit n : ℕ) → n ≡ storeNumber s → (n ≡ 0 → ⊥) → gave n 0 s ≡ result s [] (writeOutcome limit object offset bytes time s)
+  unfolding writeOutcome
+  write-stopped limit n e z = stopped s [] _ n e z
 
-  -- what it gives
-  pub write-gives : (number count : ℕ) (t : Store) → answered number count t ≡ result s [] (writeOutcome mostRuns object offset bytes time s) → gave number count t ≡ call (write object offset bytes time) s
+  -- what it gives with the limit of a simulator's write
+  pub write-gives : (number count : ℕ) (t : Store) → gave number count t ≡ result s [] (writeOutcome mostRuns object offset bytes time s) → gave number count t ≡ call (write object offset bytes time) s
   unfolding call
   write-gives number count t e = e
+
+  -- and with the archive writer's
+  pub archive-gives : (number count : ℕ) (t : Store) → gave number count t ≡ result s [] (writeOutcome archiveRuns object offset bytes time s) → gave number count t ≡ call (writeArchive object offset bytes time) s
+  unfolding call
+  archive-gives number count t e = e
 
 -- a grow
 module _ (object size : ℕ) (time : Time) (s : Store) where

@@ -6,14 +6,18 @@
 //
 // An export joins two parts: the tests, over the lent buffers as they are, and an inner call, which may take for granted that the tests passed.
 ghost use mathlib.Core.Path.{_≡_};
+ghost use mathlib.Core.List.{[]};
 ghost use Rattle.rules.specs.Store.{lent};
+ghost use Rattle.rules.specs.Refusal.{result};
+ghost use Rattle.rules.specs.Write.{writeOutcome};
 ghost use Rattle.rules.specs.Call.{call};
 ghost use Rattle.rules.specs.Call.Look.{read, readMany, dataStretches, fill};
-ghost use Rattle.rules.specs.Call.Call.{fresh, enter, write, grow, settle, look};
+ghost use Rattle.rules.specs.Call.Call.{fresh, enter, write, writeArchive, grow, settle, look};
 ghost use Rattle.rules.specs.Act.{act};
 ghost use Rattle.rules.specs.Act.Act.{batch};
 ghost use Rattle.volume.specs.Call.{handed, gave};
 use format::sizes::BLOCK_BYTES;
+use write::ARCHIVE_RUNS;
 use write::MOST_RUNS;
 
 // A call's answer: 0 and a count, or the number of its refusal and 0.
@@ -182,6 +186,49 @@ pub extern "C" fn sangueko_enter(
     }
 }
 
+// Bytes written to a file from `offset` on: what a rewritten unit keeps is held to `limit` runs, in which alone the two calls differ.
+fn write_within(
+    image: &mut [u8],
+    head: &mut [u8],
+    cards: &mut [u8],
+    extents: &mut [u8],
+    groups: &mut [u8],
+    used: &mut [u8],
+    retired: &mut [u8],
+    limit: usize,
+    object: u64,
+    offset: u64,
+    bytes: &[u8],
+    seconds: u64,
+    nanoseconds: u64,
+) -> Answer
+    ensures { λ r. ⌜ gave (r .number) (r .count) (lent (now (image .exit)) (now (head .exit)) (now (cards .exit)) (now (extents .exit)) (now (groups .exit)) (now (used .exit)) (now (retired .exit))) ≡ result (lent (now (image .entry)) (now (head .entry)) (now (cards .entry)) (now (extents .entry)) (now (groups .entry)) (now (used .entry)) (now (retired .entry))) [] (writeOutcome limit object offset (now (bytes .entry)) (record { seconds = seconds; nanoseconds = nanoseconds }) (lent (now (image .entry)) (now (head .entry)) (now (cards .entry)) (now (extents .entry)) (now (groups .entry)) (now (used .entry)) (now (retired .entry)))) ⌝ }
+{
+    let number = intake::refused(image, head, cards, extents, groups, used, retired);
+    if number != 0 {
+        return Answer { number, count: 0 };
+    }
+    let done = write::write::write_file(
+        image,
+        head,
+        cards,
+        extents,
+        groups,
+        used,
+        retired,
+        limit,
+        object,
+        offset,
+        bytes,
+        seconds,
+        nanoseconds,
+    );
+    Answer {
+        number: done.number,
+        count: done.count,
+    }
+}
+
 // Bytes written to a file from `offset` on, as many of them as a write takes. The count is their number; the file grows where they end past its end.
 #[no_mangle]
 pub extern "C" fn sangueko_write(
@@ -200,11 +247,7 @@ pub extern "C" fn sangueko_write(
 ) -> Answer
     ensures { λ r. ⌜ gave (r .number) (r .count) (lent (now (image .exit)) (now (head .exit)) (now (cards .exit)) (now (extents .exit)) (now (groups .exit)) (now (used .exit)) (now (retired .exit))) ≡ call (write object offset (now (bytes .entry)) (record { seconds = seconds; nanoseconds = nanoseconds })) (lent (now (image .entry)) (now (head .entry)) (now (cards .entry)) (now (extents .entry)) (now (groups .entry)) (now (used .entry)) (now (retired .entry))) ⌝ }
 {
-    let number = intake::refused(image, head, cards, extents, groups, used, retired);
-    if number != 0 {
-        return Answer { number, count: 0 };
-    }
-    let done = write::write::write_file(
+    write_within(
         image,
         head,
         cards,
@@ -218,11 +261,42 @@ pub extern "C" fn sangueko_write(
         bytes,
         seconds,
         nanoseconds,
-    );
-    Answer {
-        number: done.number,
-        count: done.count,
-    }
+    )
+}
+
+// The same for the archive writer: a unit keeps old blocks only at two runs or fewer, so that a file that is read end to end lies in fewer pieces.
+#[no_mangle]
+pub extern "C" fn sangueko_write_archive(
+    image: &mut [u8],
+    head: &mut [u8],
+    cards: &mut [u8],
+    extents: &mut [u8],
+    groups: &mut [u8],
+    used: &mut [u8],
+    retired: &mut [u8],
+    object: u64,
+    offset: u64,
+    bytes: &[u8],
+    seconds: u64,
+    nanoseconds: u64,
+) -> Answer
+    ensures { λ r. ⌜ gave (r .number) (r .count) (lent (now (image .exit)) (now (head .exit)) (now (cards .exit)) (now (extents .exit)) (now (groups .exit)) (now (used .exit)) (now (retired .exit))) ≡ call (writeArchive object offset (now (bytes .entry)) (record { seconds = seconds; nanoseconds = nanoseconds })) (lent (now (image .entry)) (now (head .entry)) (now (cards .entry)) (now (extents .entry)) (now (groups .entry)) (now (used .entry)) (now (retired .entry))) ⌝ }
+{
+    write_within(
+        image,
+        head,
+        cards,
+        extents,
+        groups,
+        used,
+        retired,
+        ARCHIVE_RUNS,
+        object,
+        offset,
+        bytes,
+        seconds,
+        nanoseconds,
+    )
 }
 
 // The writes of a list of triples (object, offset, length), one after another, each as a single write of the bytes that are next, with one time. It stops
