@@ -1,6 +1,6 @@
 -- From the tests and the inner calls of a write and a grow to the calls of the rules.
 -- Assumes nothing.
-use mathlib.Core.Path.{_≡_}
+use mathlib.Core.Path.{_≡_, ap, _∙_}
 use mathlib.Core.List.{List, []}
 use Prim.Native.Nat.{ℕ}
 use Rattle.rules.specs.Sizes.{mostRuns, archiveRuns}
@@ -27,14 +27,14 @@ module _ (object offset : ℕ) (bytes : List ℕ) (time : Time) (s : Store) wher
   write-stopped limit n e z = stopped s [] _ n e z
 
   -- what it gives with the limit of a simulator's write
-  pub write-gives : (number count : ℕ) (t : Store) → gave number count t ≡ result s [] (writeOutcome mostRuns object offset bytes time s) → gave number count t ≡ call (write object offset bytes time) s
+  pub write-gives : (limit number count : ℕ) (t : Store) → gave number count t ≡ result s [] (writeOutcome limit object offset bytes time s) → limit ≡ mostRuns → gave number count t ≡ call (write object offset bytes time) s
   unfolding call
-  write-gives number count t e = e
+  write-gives limit number count t e l = e ∙ ap (λ n. result s [] (writeOutcome n object offset bytes time s)) l
 
   -- and with the archive writer's
-  pub archive-gives : (number count : ℕ) (t : Store) → gave number count t ≡ result s [] (writeOutcome archiveRuns object offset bytes time s) → gave number count t ≡ call (writeArchive object offset bytes time) s
+  pub archive-gives : (limit number count : ℕ) (t : Store) → gave number count t ≡ result s [] (writeOutcome limit object offset bytes time s) → limit ≡ archiveRuns → gave number count t ≡ call (writeArchive object offset bytes time) s
   unfolding call
-  archive-gives number count t e = e
+  archive-gives limit number count t e l = e ∙ ap (λ n. result s [] (writeOutcome n object offset bytes time s)) l
 
 -- a grow
 module _ (object size : ℕ) (time : Time) (s : Store) where
