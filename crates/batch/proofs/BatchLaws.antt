@@ -57,11 +57,12 @@ module _ (object offset : ℕ) (bytes : List ℕ) (seconds nanoseconds : ℕ) (s
       let q : _≡_ {A = Result} (answered n 0 s) (call (write object offset bytes (record { seconds = seconds; nanoseconds = nanoseconds })) s) = unfold call writeOutcome in stopped s [] _ n e z in
       record { number-is = ap (λ (r : Result). r .number) q; left-is = ap (λ (r : Result). r .store) q }
 
-  -- done, as the inner call does it
-  pub write-done : (n k : ℕ) (t : Store) → answered n k t ≡ result s [] (writeOutcome mostRuns object offset bytes (record { seconds = seconds; nanoseconds = nanoseconds }) s)
-      → Wrote object offset bytes seconds nanoseconds s n t
-  write-done n k t e =
-      let q : _≡_ {A = Result} (answered n k t) (call (write object offset bytes (record { seconds = seconds; nanoseconds = nanoseconds })) s) = unfold call in e in
+  -- done, as the inner call does it with the limit of runs that a write has
+  pub write-done : (limit n k : ℕ) (t : Store) → answered n k t ≡ result s [] (writeOutcome limit object offset bytes (record { seconds = seconds; nanoseconds = nanoseconds }) s)
+      → limit ≡ mostRuns → Wrote object offset bytes seconds nanoseconds s n t
+  write-done limit n k t e l =
+      let q : _≡_ {A = Result} (answered n k t) (call (write object offset bytes (record { seconds = seconds; nanoseconds = nanoseconds })) s) =
+      unfold call in e ∙ ap (λ m. result s [] (writeOutcome m object offset bytes (record { seconds = seconds; nanoseconds = nanoseconds }) s)) l in
       record { number-is = ap (λ (r : Result). r .number) q; left-is = ap (λ (r : Result). r .store) q }
 
 -- ---- the writes one after another

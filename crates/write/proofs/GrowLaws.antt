@@ -59,9 +59,9 @@ module _ (s : Store) (object old allocated size seconds nanoseconds : ℕ) (us :
     units = rw units-are (units-grow object old size l);
   }
 
-  -- what becomes of it
-  pub grow-done : (r : ℕ) (t : Store) → numbered r t ≡ changed mostRuns s object code [] allocated seconds nanoseconds us → numbered r t ≡ grown s object old allocated size seconds nanoseconds
-  grow-done r t e = e ∙ ap (changed mostRuns s object code [] allocated seconds nanoseconds) units-are
+  -- what becomes of it, with the limit of runs that a grow has
+  pub grow-done : (limit r : ℕ) (t : Store) → numbered r t ≡ changed limit s object code [] allocated seconds nanoseconds us → limit ≡ mostRuns → numbered r t ≡ grown s object old allocated size seconds nanoseconds
+  grow-done limit r t e l = e ∙ ap (λ n. changed n s object code [] allocated seconds nanoseconds us) l ∙ ap (changed mostRuns s object code [] allocated seconds nanoseconds) units-are
 
 -- ---- a file of known size
 

@@ -1,5 +1,6 @@
 -- `batch::write_next` meets its contract.
 -- Assumes nothing.
+use mathlib.Core.Path.{refl}
 use Rattle.intake.proofs.JoinLaws.{not-stopped}
 use Rattle.batch.proofs.BatchLaws.{write-stopped, write-done}
 use borrow.Author.Needs.{needs}
@@ -58,7 +59,7 @@ same-length-14 : tie.Need-same-length-14
 same-length-14 c = search needs
 
 returns-2 : tie.Need-returns-2
-returns-2 c = write-done _ _ _ _ _ _ _ _ _ (c .before .before .before .before .before .before .before .before .before .before .before .before .before .before .write-file .ensures)
+returns-2 c = write-done _ _ _ _ _ _ _ _ _ _ (c .before .before .before .before .before .before .before .before .before .before .before .before .before .before .write-file .ensures) refl
 
 pub write-next-spec : {M : Type 1} → statement M
 write-next-spec =

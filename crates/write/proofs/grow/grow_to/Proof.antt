@@ -1,7 +1,7 @@
 -- `write::grow::grow_to` meets its contract.
 -- Assumes nothing.
 use native.Mathlib.Omega.{arith}
-use mathlib.Core.Path.{sym}
+use mathlib.Core.Path.{refl, sym}
 use lib.Seq.{length-take-le}
 use Rattle.write.proofs.GrowLaws.{grow-ready, grow-done}
 use borrow.Author.Needs.{needs}
@@ -48,7 +48,7 @@ same-length-7 : tie.Need-same-length-7
 same-length-7 c = search needs
 
 returns : tie.Need-returns
-returns c = grow-done _ _ _ _ _ _ _ _ (c .before .before .before .before .before .before .before .before .before .before .before .before .before .before .before .before .before .before .before .before .before .before .before .before .before .grow-units .ensures .1) _ _ (c .before .before .before .before .before .before .before .before .before .before .before .before .before .before .change-file .ensures)
+returns c = grow-done _ _ _ _ _ _ _ _ (c .before .before .before .before .before .before .before .before .before .before .before .before .before .before .before .before .before .before .before .before .before .before .before .before .before .grow-units .ensures .1) _ _ _ (c .before .before .before .before .before .before .before .before .before .before .before .before .before .before .change-file .ensures) refl
 
 pub grow-to-spec : {M : Type 1} → statement M
 grow-to-spec =
