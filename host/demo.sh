@@ -1,8 +1,8 @@
 #!/usr/bin/env bash
 # The command `sangueko` on a store in a temporary folder: a file of flags is written, overwritten, shown, settled and read back, and it is told which parts
-# of it hold data; a batch of writes is made, and one that stops; a write is killed; then one byte of a copy is damaged in each of several ways, a copy gets
-# the cards of an older store, and the refusals are shown in words. Every answer is compared with what it has to be: the script fails where one is not. It
-# needs the archive (`rt staticlib volume`), ends by itself and leaves nothing behind.
+# of it hold data; a batch of writes is made, and one that stops; a byte is written with `--archive` and without; a write is killed; then one byte of a
+# copy is damaged in each of several ways, a copy gets the cards of an older store, and the refusals are shown in words. Every answer is compared with what
+# it has to be: the script fails where one is not. It needs the archive (`rt staticlib volume`), ends by itself and leaves nothing behind.
 set -euo pipefail
 cd "$(dirname "$0")/.."
 cargo build --release --offline --quiet --manifest-path host/tool/Cargo.toml
@@ -25,6 +25,11 @@ ends() {
     run "$@" 2>&1 || got=$?
     echo "   (exit code $got)"
     [ "$got" -eq "$code" ] || { echo "expected exit code $code"; exit 1; }
+}
+# two files have to be equal; a `cmp .. && echo ..` would not end the script where they are not
+same() {
+    cmp "$1" "$2"
+    echo "$3"
 }
 # COUNT bytes of one value, in octal
 bytes() { head -c "$1" /dev/zero | tr '\0' "\\$2"; }
@@ -70,14 +75,14 @@ run show store --json | sed 's/.*"map":"\(.*\)".*/\1/' | fold -w 64
 
 say "Read back, and compared with a plain file to which the same was done"
 run read store 7 --out back
-cmp back flags && echo "the same, byte for byte"
+same back flags "the same, byte for byte"
 
 say "Parts of it, one after another: two of a unit, one that was never written, and one that ends past the file's end"
 run read store 7 --ranges 59990:20,60990:20,300000:5,449990:100 --out parts
 for range in 59990:20 60990:20 300000:5 449990:10; do
     dd if=flags bs=1 skip="${range%:*}" count="${range#*:}" status=none
 done >expected
-cmp parts expected && echo "the same bytes"
+same parts expected "the same bytes"
 
 say "Many small updates of a copy at once: a line for each, the bytes as digits or from a file"
 cp -r store updated
@@ -91,7 +96,7 @@ put 100 '\000'
 put 59999 'a second file\n'
 put 449999 '\376'
 run read updated 7 --out back
-cmp back updated.flags && echo "the same, byte for byte"
+same back updated.flags "the same, byte for byte"
 run read updated 9
 
 say "The third of four has no file: the two before it are stored, the fourth is not made"
@@ -99,9 +104,39 @@ printf '7 0 01\n9 2 7365636f6e64\n8 0 00\n7 0 02\n' >list
 ends 3 batch updated list
 put 0 '\001'
 run read updated 7 --out back
-cmp back updated.flags && echo "the same, byte for byte"
+same back updated.flags "the same, byte for byte"
 run read updated 9
 ends 0 check updated
+
+say "A file that is read end to end: 64 KiB in one piece, and a byte written in the middle. One block is new, and the file is in three pieces"
+run new pieces --blocks 40
+run enter pieces 7
+bytes 65536 252 >unit
+run write pieces 7 unit
+cp -r pieces whole
+printf x >byte
+run write pieces 7 byte --at 30000
+"$sangueko" show pieces >told
+grep '^  [0-9]* reserved' told
+grep -o 'file 7: .* in [0-9]* pieces*' told | tee told.file
+grep -q '16 of files, 1 retired' told
+grep -q '16 blocks in 3 pieces$' told.file
+
+say "The same of a copy with --archive, by which a unit keeps old blocks only at two runs: all 16 are new, and it is in one piece"
+run write whole 7 byte --at 30000 --archive
+"$sangueko" show whole >told
+grep '^  [0-9]* reserved' told
+grep -o 'file 7: .* in [0-9]* pieces*' told | tee told.file
+grep -q '16 of files, 16 retired' told
+grep -q '16 blocks in 1 piece$' told.file
+dd if=byte of=unit bs=1 seek=30000 conv=notrunc status=none
+for store in pieces whole; do
+    run read "$store" 7 --out back
+    same back unit "the same, byte for byte"
+done
+say "Eight blocks are free now: too few for --archive, and enough without"
+ends 13 write whole 7 byte --at 20000 --archive
+ends 0 write whole 7 byte --at 20000
 
 say "A write of four calls is killed on the way: the store is as after some whole call"
 run new large --blocks 2000
@@ -130,7 +165,7 @@ damage() {
 say "Now a copy is damaged, one byte at a time"
 damage "A byte of the flags" image 20480 000 12
 ends 12 read copy 7 --ranges 449990:5,5:10 --out parts
-cmp parts expected && echo "   (nothing was written)"
+same parts expected "   (nothing was written)"
 damage "The head's number of blocks" head 17 000 1
 damage "The nanoseconds of a file's creation" cards 39 003 2
 damage "A spare bit of a card" cards 47 001 2

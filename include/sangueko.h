@@ -14,8 +14,8 @@
  *
  * The three books (cards, extents, groups) have 0 to SANGUEKO_MOST_PLACES places each. The caller chooses the lengths once, calls sangueko_fresh, and
  * lends buffers of the same lengths from then on; the buffers, kept as they are, are the store. sangueko_enter adds a file, sangueko_write and
- * sangueko_grow change it, sangueko_write_batch makes many writes at once, sangueko_read gives a file's bytes, sangueko_read_many those of many ranges
- * at once, and sangueko_data_stretches tells which parts of it hold data.
+ * sangueko_grow change it, sangueko_write_archive writes so that a file lies in fewer pieces, sangueko_write_batch makes many writes at once,
+ * sangueko_read gives a file's bytes, sangueko_read_many those of many ranges at once, and sangueko_data_stretches tells which parts of it hold data.
  *
  * A call answers a number and a count. Number 0: it did its work, and the count is its answer. Any other number is one of enum sangueko_refusal: the
  * call was refused, its count is 0 and no byte of any buffer has changed; but sangueko_write_batch can also stop on the way. A call tries its refusals
@@ -182,6 +182,29 @@ struct sangueko_answer sangueko_enter(
  * `bytes` are refused by 1, 2 and 3 alone.
  */
 struct sangueko_answer sangueko_write(
+    uint8_t *image, size_t image_len,
+    uint8_t *head, size_t head_len,
+    uint8_t *cards, size_t cards_len,
+    uint8_t *extents, size_t extents_len,
+    uint8_t *groups, size_t groups_len,
+    uint8_t *used, size_t used_len,
+    uint8_t *retired, size_t retired_len,
+    uint64_t object, uint64_t offset,
+    const uint8_t *bytes, size_t bytes_len,
+    uint64_t seconds, uint64_t nanoseconds);
+
+/*
+ * Writes as sangueko_write does, for files that are read end to end: what the file then holds, its size, its times and the count are the same, and only
+ * where its bytes lie can differ. A write rewrites a unit in new blocks. The old ones that it writes no byte into, and that the file fills before and
+ * after it, stay if the unit then has few runs; else none does. A run is blocks of the unit side by side that are all new, or all kept and side by side
+ * in the image too. sangueko_write, each write of a batch and sangueko_grow keep blocks at four runs or fewer, and this call at two or fewer. So it
+ * leaves at most one run of old blocks in a unit that it rewrites; the new ones lie where free ones are found, in one piece only where those do.
+ * What it costs: a byte written inside a unit of 16 blocks in one piece takes 1 new block by sangueko_write and 16 by this call; in the first or the last
+ * of the 16 it takes 1 by both. As many old ones are retired until sangueko_settle. So 13 can come where sangueko_write is accepted; and 16 can come by
+ * one of the two alone, as the number of extents that they leave differs. Both may be called on one store, and on one file, in any order.
+ * Count: the bytes taken; the rest is left to another call. 0 where `bytes` is empty. Refused by the numbers of sangueko_write, in the same order.
+ */
+struct sangueko_answer sangueko_write_archive(
     uint8_t *image, size_t image_len,
     uint8_t *head, size_t head_len,
     uint8_t *cards, size_t cards_len,

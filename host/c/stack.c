@@ -1,7 +1,7 @@
 /*
  * How much stack each call takes: it runs on a stack filled with one byte, and the lowest byte that changed is sought. The store has a file with a
- * block and a checksum, so that every test is made; write, batch and grow keep old bytes and fill a unit. Exits with 1 where a call takes more than the
- * header says.
+ * block and a checksum, so that every test is made; both writes, batch and grow keep old bytes and fill a unit. Exits with 1 where a call takes more than
+ * the header says.
  */
 #define _XOPEN_SOURCE 700
 #define _DEFAULT_SOURCE
@@ -84,6 +84,13 @@ static struct sangueko_answer write_file(void)
 {
     static const uint8_t bytes[70000] = { 3 };
     return sangueko_write(LENT, 7, SANGUEKO_BLOCK_BYTES - 10, bytes, sizeof bytes, 1, 2);
+}
+
+/* The same. */
+static struct sangueko_answer write_archive(void)
+{
+    static const uint8_t bytes[70000] = { 3 };
+    return sangueko_write_archive(LENT, 7, SANGUEKO_BLOCK_BYTES - 10, bytes, sizeof bytes, 1, 2);
 }
 
 /* As many writes as a list has: the last one as above, the others of no byte. */
@@ -172,7 +179,8 @@ int main(void)
         uint64_t count;
     } calls[] = { { "fresh", fresh, 0 }, { "enter", enter, 0 }, { "settle", settle, 1 }, { "fill", fill, 31 },
                   { "read", read_file, SANGUEKO_BLOCK_BYTES }, { "read_many", read_many, 1 }, { "data_stretches", stretches, 1 },
-                  { "write", write_file, 70000 }, { "write_batch", write_batch, SANGUEKO_MOST_RANGES }, { "grow", grow_file, 0 } };
+                  { "write", write_file, 70000 }, { "write_archive", write_archive, 70000 },
+                  { "write_batch", write_batch, SANGUEKO_MOST_RANGES }, { "grow", grow_file, 0 } };
     int failed = 0;
     printf("stack:");
     for (size_t i = 0; i < sizeof calls / sizeof calls[0]; i++) {

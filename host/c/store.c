@@ -1,7 +1,8 @@
 /*
- * The library from C: a store of 8 blocks with 1 reserved, a file that is written and grown, and each refusal that the calls give. A buffer that a call
- * takes as `const`, and every buffer of a call that is to be refused, stands in pages that cannot be written meanwhile: a write there ends the program.
- * Every byte of the store is compared after each change. Exits with 1 at any difference.
+ * The library from C: a store of 8 blocks with 1 reserved, a file that is written and grown, and each refusal that the calls give; and one of 40 blocks, in
+ * which a file of one unit is written by both calls that write. A buffer that a call takes as `const`, and every buffer of a call that is to be refused,
+ * stands in pages that cannot be written meanwhile: a write there ends the program. Every byte of the store is compared after each change. Exits with 1 at
+ * any difference.
  */
 #define _DEFAULT_SOURCE
 
@@ -71,7 +72,7 @@ static void protect(void *at, size_t len, int access)
 
 static void allow(struct store *s, int buffer, int access)
 {
-    protect(s->at[buffer], lengths[buffer], access);
+    protect(s->at[buffer], s->len[buffer], access);
 }
 
 static void close_all(struct store *s)
@@ -163,6 +164,11 @@ static struct sangueko_answer write_at(struct store *s, uint64_t object, uint64_
     return sangueko_write(LENT(s), object, offset, bytes, len, seconds, nanoseconds);
 }
 
+static struct sangueko_answer archive_at(struct store *s, uint64_t object, uint64_t offset, size_t len, uint64_t seconds, uint64_t nanoseconds)
+{
+    return sangueko_write_archive(LENT(s), object, offset, bytes, len, seconds, nanoseconds);
+}
+
 /* The writes of so many ranges, of whose list and bytes so many are lent. */
 static struct sangueko_answer write_list(struct store *s, const struct range *ranges, size_t n, size_t list_len, size_t len, uint64_t seconds)
 {
@@ -224,14 +230,14 @@ static void refused(const char *what, struct sangueko_answer answer, enum sangue
 static void keep(struct store *s, uint8_t *kept[BUFFERS])
 {
     for (int i = 0; i < BUFFERS; i++)
-        memcpy(kept[i], s->at[i], lengths[i]);
+        memcpy(kept[i], s->at[i], s->len[i]);
 }
 
 /* Whether every byte of the store is as it was kept. */
 static void unchanged(const char *what, struct store *s, uint8_t *kept[BUFFERS])
 {
     for (int i = 0; i < BUFFERS; i++)
-        if (memcmp(kept[i], s->at[i], lengths[i]) != 0) {
+        if (memcmp(kept[i], s->at[i], s->len[i]) != 0) {
             printf("%s: buffer %d has changed\n", what, i);
             differences++;
         }
@@ -325,6 +331,7 @@ static void refusals(struct store *s, uint8_t *kept[BUFFERS])
         refused("settle, a buffer one byte short", sangueko_settle(LENT(s)), SANGUEKO_WRONG_LENGTH);
         refused("fill, a buffer one byte short", sangueko_fill(LENT(s)), SANGUEKO_WRONG_LENGTH);
         refused("write, a buffer one byte short", write_at(s, 7, 0, 1, 0, 0), SANGUEKO_WRONG_LENGTH);
+        refused("archive, a buffer one byte short", archive_at(s, 7, 0, 1, 0, 0), SANGUEKO_WRONG_LENGTH);
         refused("grow, a buffer one byte short", grow(s, 7, 1, 0, 0), SANGUEKO_WRONG_LENGTH);
         refused("batch, a buffer one byte short", write_list(s, NULL, 0, 1, 0, 0), SANGUEKO_WRONG_LENGTH);
         unread("read, a buffer one byte short", read_at(s, 7, 0, sizeof out), SANGUEKO_WRONG_LENGTH);
@@ -348,6 +355,12 @@ static void refusals(struct store *s, uint8_t *kept[BUFFERS])
     refused("write, too many seconds", write_at(s, 7, most - 1, 1, most + 1, 0), SANGUEKO_BAD_TIME);
     refused("write, too many nanoseconds", write_at(s, 7, 0, 1, most, 1000000000), SANGUEKO_BAD_TIME);
     refused("write, too few blocks", write_at(s, 7, 0, 7 * SANGUEKO_BLOCK_BYTES + 1, most, 999999999), SANGUEKO_NO_SPACE);
+    refused("archive, no such file", archive_at(s, 9, most, 1, most + 1, 0), SANGUEKO_NO_CARD);
+    refused("archive of nothing, no such file", archive_at(s, 9, 0, 0, 0, 0), SANGUEKO_NO_CARD);
+    refused("archive, past the limit", archive_at(s, 7, most - 1, 2, most + 1, 0), SANGUEKO_PAST_LIMIT);
+    refused("archive, too many seconds", archive_at(s, 7, most - 1, 1, most + 1, 0), SANGUEKO_BAD_TIME);
+    refused("archive, too many nanoseconds", archive_at(s, 7, 0, 1, most, 1000000000), SANGUEKO_BAD_TIME);
+    refused("archive, too few blocks", archive_at(s, 7, 0, 7 * SANGUEKO_BLOCK_BYTES + 1, most, 999999999), SANGUEKO_NO_SPACE);
     refused("grow, no such file", grow(s, 9, most + 1, most + 1, 0), SANGUEKO_NO_CARD);
     refused("grow, past the limit", grow(s, 7, most + 1, most + 1, 0), SANGUEKO_PAST_LIMIT);
     refused("grow, too many seconds", grow(s, 7, most, most + 1, 0), SANGUEKO_BAD_TIME);
@@ -383,6 +396,7 @@ static void broken(struct store *s, uint8_t *kept[BUFFERS])
     refused("settle, a broken rule", sangueko_settle(LENT(s)), SANGUEKO_BROKEN_RULE);
     refused("fill, a broken rule", sangueko_fill(LENT(s)), SANGUEKO_BROKEN_RULE);
     refused("write, a broken rule", write_at(s, 9, 0, 0, 0, 0), SANGUEKO_BROKEN_RULE);
+    refused("archive, a broken rule", archive_at(s, 9, 0, 0, 0, 0), SANGUEKO_BROKEN_RULE);
     refused("grow, a broken rule", grow(s, 9, 0, 0, 0), SANGUEKO_BROKEN_RULE);
     refused("batch, a broken rule", write_list(s, NULL, 0, 1, 0, 0), SANGUEKO_BROKEN_RULE);
     refused("batch of one, a broken rule", write_batch(s, (const struct range[]){ { 7, 0, 1 } }, 1, 0), SANGUEKO_BROKEN_RULE);
@@ -606,11 +620,13 @@ static void both_refused(const char *what, struct store *s, uint8_t *kept[BUFFER
     unchanged(what, s, kept);
 }
 
-/* The same of a unit that is damaged, which no read gets past: neither one alone nor the second of three, before the third is tried. */
+/* The same of a unit that is damaged, and a write of the call for archives too; no read gets past it: neither one alone nor the second of three, before
+ * the third is tried. */
 static void damaged(const char *what, struct store *s, uint8_t *kept[BUFFERS], enum sangueko_refusal number)
 {
     both_refused(what, s, kept, number);
     close_all(s);
+    refused(what, archive_at(s, 7, 1, 1, 0, 0), number);
     unread(what, read_at(s, 7, 0, 1), number);
     unread(what, read_many(s, (const struct range[]){ { 5, 0, 1 }, { 7, 0, 1 }, { 9, 0, 1 } }, 3), number);
     open_all(s);
@@ -638,6 +654,7 @@ static void changes(struct store *s, uint8_t *kept[BUFFERS])
 
     close_all(s);
     accepted("write of nothing", write_at(s, 7, UINT64_MAX, 0, UINT64_MAX, UINT64_MAX), 0);
+    accepted("archive of nothing", archive_at(s, 7, UINT64_MAX, 0, UINT64_MAX, UINT64_MAX), 0);
     accepted("grow to the same size", grow(s, 7, 9000, UINT64_MAX, UINT64_MAX), 0);
     refused("grow to less", grow(s, 7, 8999, UINT64_MAX, 0), SANGUEKO_BELOW_SIZE);
     open_all(s);
@@ -680,12 +697,15 @@ static void changes(struct store *s, uint8_t *kept[BUFFERS])
 
     close_all(s);
     refused("write, no place for a group", write_at(s, 5, 0, 1, 0, 0), SANGUEKO_NO_GROUP_PLACE);
+    refused("archive, no place for a group", archive_at(s, 5, 0, 1, 0, 0), SANGUEKO_NO_GROUP_PLACE);
     open_all(s);
     accepted("settle", sangueko_settle(LENT(s)), 1);
     kept[USED][0] = 0x5f;
     kept[RETIRED][0] = 0;
     close_all(s);
     refused("write, no place for an extent", write_at(s, 7, 3 * SANGUEKO_BLOCK_BYTES, 1, 0, 0), SANGUEKO_NO_EXTENT_PLACE);
+    /* of the four runs that a write keeps, this call keeps none: it wants five blocks, and two are free */
+    refused("archive, four runs", archive_at(s, 7, 3 * SANGUEKO_BLOCK_BYTES, 1, 0, 0), SANGUEKO_NO_SPACE);
     open_all(s);
     unchanged("no places", s, kept);
 
@@ -775,6 +795,154 @@ static void batches(struct store *s, uint8_t *kept[BUFFERS])
     unchanged("batch behind it", s, kept);
 }
 
+/* The bits of the blocks from one to another, set in a map. */
+static void set_blocks(uint8_t *map, unsigned first, unsigned last)
+{
+    for (unsigned block = first; block <= last; block++)
+        map[block / 8] |= (uint8_t)(1 << block % 8);
+}
+
+/* A store put back to what was kept. */
+static void put_back(struct store *s, uint8_t *kept[BUFFERS])
+{
+    for (int i = 0; i < BUFFERS; i++)
+        memcpy(s->at[i], kept[i], s->len[i]);
+}
+
+/* Blocks of the larger store. The maps of 40 and of 8 blocks have the same length. */
+#define WIDE 40
+
+/* What a write into file 7, of one unit in blocks 1 to 16, has to leave: its new bytes in the file and on the card, and the unit's checksum. */
+static void expect_write(uint8_t *kept[BUFFERS], uint8_t *file, size_t at, size_t len, uint64_t seconds)
+{
+    memcpy(file + at, bytes, len);
+    expect_card(kept, SANGUEKO_UNIT_BYTES, 16, seconds, 0);
+    expect_group(kept, file, SANGUEKO_UNIT_BYTES);
+}
+
+/* Logical blocks of the file in blocks of the image, one behind the other. */
+static void expect_blocks(uint8_t *kept[BUFFERS], const uint8_t *file, struct run run)
+{
+    for (unsigned i = 0; i < run.count; i++)
+        expect_block(kept, run.physical + i, file, run.logical + i);
+    set_blocks(kept[USED], run.physical, run.physical + run.count - 1u);
+}
+
+/* A file of one unit, written by both calls: what each of them keeps of it, and that they may follow each other. */
+static void archives(struct store *s, uint8_t *kept[BUFFERS])
+{
+    static uint8_t file[SANGUEKO_UNIT_BYTES], first[SANGUEKO_UNIT_BYTES];
+    const size_t len = WIDE * SANGUEKO_BLOCK_BYTES, middle = 30000;
+    struct store wide = *s;
+    uint8_t *due[BUFFERS], *whole[BUFFERS];
+    for (int i = 0; i < BUFFERS; i++) {
+        due[i] = kept[i];
+        whole[i] = pages(i == IMAGE ? len : lengths[i]);
+    }
+    open_all(s);
+    wide.at[IMAGE] = pages(len);
+    due[IMAGE] = pages(len);
+    wide.len[IMAGE] = len;
+    accepted("fresh for archives", fresh(&wide, sizeof uuid, 1), 0);
+    accepted("enter 5 for archives", enter(&wide, 5, 0, 0), 0);
+    accepted("enter 7 for archives", enter(&wide, 7, 8, 9), 0);
+    keep(&wide, due);
+
+    /* a whole unit of a new file */
+    accepted("archive, a unit", archive_at(&wide, 7, 0, SANGUEKO_UNIT_BYTES, 10, 0), SANGUEKO_UNIT_BYTES);
+    expect_write(due, file, 0, SANGUEKO_UNIT_BYTES, 10);
+    expect_extents(due, (const struct run[]){ { 0, 1, 16 } }, 1);
+    expect_blocks(due, file, (struct run){ 0, 1, 16 });
+    unchanged("archive, a unit", &wide, due);
+    keep(&wide, whole);
+    memcpy(first, file, sizeof file);
+
+    /* four bytes within block 7: kept, new and kept are three runs, of which a write keeps the two old ones, in a batch too */
+    accepted("write in the middle", write_at(&wide, 7, middle, 4, 11, 0), 4);
+    expect_write(due, file, middle, 4, 11);
+    expect_extents(due, (const struct run[]){ { 0, 1, 7 }, { 7, 17, 1 }, { 8, 9, 8 } }, 3);
+    expect_blocks(due, file, (struct run){ 7, 17, 1 });
+    set_blocks(due[RETIRED], 8, 8);
+    unchanged("write in the middle", &wide, due);
+    reads_as("write in the middle", &wide, file, sizeof file);
+    put_back(&wide, whole);
+    accepted("batch in the middle", write_batch(&wide, (const struct range[]){ { 7, middle, 4 } }, 1, 11), 1);
+    unchanged("batch in the middle", &wide, due);
+
+    /* and the call for archives none: all 16 are new */
+    put_back(&wide, whole);
+    keep(&wide, due);
+    accepted("archive in the middle", archive_at(&wide, 7, middle, 4, 11, 0), 4);
+    expect_write(due, file, middle, 4, 11);
+    expect_extents(due, (const struct run[]){ { 0, 17, 16 } }, 1);
+    expect_blocks(due, file, (struct run){ 0, 17, 16 });
+    set_blocks(due[RETIRED], 1, 16);
+    unchanged("archive in the middle", &wide, due);
+    expect_times("archive in the middle", &wide, (struct times){ .created = { 8, 9 }, .changed = { 11, 0 } });
+    reads_as("archive in the middle", &wide, file, sizeof file);
+
+    /* seven blocks are free: too few for this call, and one is enough for a write, which goes on where it left off */
+    close_all(&wide);
+    refused("archive, too few blocks for a unit", archive_at(&wide, 7, middle, 4, 12, 0), SANGUEKO_NO_SPACE);
+    open_all(&wide);
+    unchanged("archive, too few blocks for a unit", &wide, due);
+    accepted("write behind it", write_at(&wide, 7, middle, 9, 12, 0), 9);
+    expect_write(due, file, middle, 9, 12);
+    expect_extents(due, (const struct run[]){ { 0, 17, 7 }, { 7, 33, 1 }, { 8, 25, 8 } }, 3);
+    expect_blocks(due, file, (struct run){ 7, 33, 1 });
+    set_blocks(due[RETIRED], 24, 24);
+    unchanged("write behind it", &wide, due);
+
+    /* block 0 of a unit in three pieces: four runs. A count of no blocks is found behind the free ones */
+    accepted("settle behind both", sangueko_settle(LENT(&wide)), 17);
+    memset(due[RETIRED], 0, lengths[RETIRED]);
+    memset(due[USED], 0, lengths[USED]);
+    set_blocks(due[USED], 0, 0);
+    set_blocks(due[USED], 17, 23);
+    set_blocks(due[USED], 25, 33);
+    unchanged("settle behind both", &wide, due);
+    uint8_t *card = wide.at[CARD] + SANGUEKO_CARD_BYTES;
+    put_bits(card, 127, 35, 0);
+    close_all(&wide);
+    refused("archive, a wrong count", archive_at(&wide, 7, 0, 1, 13, 0), SANGUEKO_COUNT_DISAGREES);
+    open_all(&wide);
+    put_bits(card, 127, 35, 16);
+    unchanged("archive, a wrong count", &wide, due);
+    accepted("archive, four runs", archive_at(&wide, 7, 0, 1, 13, 0), 1);
+    expect_write(due, file, 0, 1, 13);
+    expect_extents(due, (const struct run[]){ { 0, 1, 16 } }, 1);
+    expect_blocks(due, file, (struct run){ 0, 1, 16 });
+    set_blocks(due[RETIRED], 17, 23);
+    set_blocks(due[RETIRED], 25, 33);
+    unchanged("archive, four runs", &wide, due);
+    reads_as("archive, four runs", &wide, file, sizeof file);
+
+    /* of a unit in one piece the first block, the last and the last two: two runs, and one kept */
+    static const struct {
+        size_t at, len;
+        struct run new, old;
+    } edges[] = { { 100, 4, { 0, 17, 1 }, { 1, 2, 15 } },
+                  { SANGUEKO_UNIT_BYTES - 4, 4, { 15, 17, 1 }, { 0, 1, 15 } },
+                  { SANGUEKO_UNIT_BYTES - 5000, 5000, { 14, 17, 2 }, { 0, 1, 14 } } };
+    for (size_t i = 0; i < sizeof edges / sizeof edges[0]; i++) {
+        struct run new = edges[i].new, old = edges[i].old;
+        for (int archive = 0; archive < 2; archive++) {
+            put_back(&wide, whole);
+            keep(&wide, due);
+            memcpy(file, first, sizeof file);
+            struct sangueko_answer (*call)(struct store *, uint64_t, uint64_t, size_t, uint64_t, uint64_t) = archive ? archive_at : write_at;
+            accepted("an edge", call(&wide, 7, edges[i].at, edges[i].len, 14, 0), edges[i].len);
+            expect_write(due, file, edges[i].at, edges[i].len, 14);
+            const struct run ascending[] = { new.logical < old.logical ? new : old, new.logical < old.logical ? old : new };
+            expect_extents(due, ascending, 2);
+            expect_blocks(due, file, new);
+            set_blocks(due[RETIRED], 1u + new.logical, new.logical + new.count);
+            unchanged("an edge", &wide, due);
+        }
+    }
+    reads_as("the last edge", &wide, file, sizeof file);
+}
+
 /* The books may have no place: any pointer that is not null will do. */
 static void no_places(struct store *s)
 {
@@ -788,6 +956,7 @@ static void no_places(struct store *s)
     accepted("settle, no places", sangueko_settle(LENT(&bare)), 0);
     refused("enter, no places", enter(&bare, 7, 0, 0), SANGUEKO_NO_CARD_PLACE);
     refused("write, no places", write_at(&bare, 7, 0, 1, 0, 0), SANGUEKO_NO_CARD);
+    refused("archive, no places", archive_at(&bare, 7, 0, 1, 0, 0), SANGUEKO_NO_CARD);
     refused("grow, no places", grow(&bare, 7, 1, 0, 0), SANGUEKO_NO_CARD);
     accepted("no batch, no places", write_batch(&bare, NULL, 0, 0), 0);
     stopped("batch, no places", write_batch(&bare, (const struct range[]){ { 7, 0, 1 } }, 1, 0), SANGUEKO_NO_CARD, 0);
@@ -967,6 +1136,7 @@ int main(void)
     accepted("fill at the end", sangueko_fill(LENT(&s)), 0);
     changes(&s, kept);
     batches(&s, kept);
+    archives(&s, kept);
     no_places(&s);
     holes(&s, kept);
 
@@ -974,6 +1144,6 @@ int main(void)
         printf("store: %d differences\n", differences);
         return 1;
     }
-    printf("store: the ten calls as asked; each of the nineteen refusals changes nothing\n");
+    printf("store: the eleven calls as asked; each of the nineteen refusals changes nothing\n");
     return 0;
 }

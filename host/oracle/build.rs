@@ -1,11 +1,12 @@
 //! Finds the published carryfs source and makes the pieces that the oracle
 //! compiles, in `OUT_DIR`. Nothing of it is copied into the repository.
 //!
-//! `src/volume/file.rs` is compiled from where it stands, by a `#[path]`. Of
-//! the other files only single items are wanted: they are cut out as text,
-//! from their first line to the closing brace of the same indentation (the
-//! source is formatted by rustfmt), and a piece that is not found stops the
-//! build.
+//! `src/volume/file.rs` is compiled from where it stands, by a `#[path]`, and
+//! once more for the archive call, from a copy in `OUT_DIR` in which only
+//! `MAX_UNIT_RUNS` is another. Of the other files only single items are wanted:
+//! they are cut out as text, from their first line to the closing brace of the
+//! same indentation (the source is formatted by rustfmt), and a piece that is
+//! not found stops the build.
 //!
 //! The source is sought at `CARRYFS_SRC`, else beside the checkout. Where it
 //! is absent the crate is built without the cfg `carryfs` and answers nothing.
@@ -34,15 +35,22 @@ fn main() {
     let put = |name: &str, text: String| fs::write(out.join(name), text).expect("OUT_DIR");
     let published = |path: &str| Published::read(&root, path);
 
+    let file_mod = |path: &Path| {
+        format!(
+            "#[path = {path:?}]\n#[allow(dead_code, unreachable_pub, clippy::all)]\nmod file;\n"
+        )
+    };
     let file = published("src/volume/file.rs");
     println!("cargo::rustc-env=CARRYFS_FILE={}", file.path.display());
-    put(
-        "file_mod.rs",
-        format!(
-            "#[path = {:?}]\n#[allow(dead_code, unreachable_pub, clippy::all)]\nmod file;\n",
-            file.path
-        ),
+    put("file_mod.rs", file_mod(&file.path));
+    // Document 02, W-207: "The oracle for the archive call is file.rs with
+    // `MAX_UNIT_RUNS` set to 2."
+    let archive = file.replaced(
+        "const MAX_UNIT_RUNS: usize = 4;",
+        "const MAX_UNIT_RUNS: usize = 2;",
     );
+    put("archive_file.rs", archive);
+    put("archive_mod.rs", file_mod(&out.join("archive_file.rs")));
 
     let ondisk = published("ondisk/src/format.rs");
     let format = published("src/format.rs");
@@ -128,6 +136,14 @@ impl Published {
         let text =
             fs::read_to_string(&path).unwrap_or_else(|error| panic!("{}: {error}", path.display()));
         Self { path, text }
+    }
+
+    /// The text with `old`, which stands there once, replaced.
+    fn replaced(&self, old: &str, new: &str) -> String {
+        let times = self.text.matches(old).count();
+        let path = self.path.display();
+        assert!(times == 1, "{path}: `{old}` stands {times} times, not once");
+        self.text.replace(old, new)
     }
 
     /// The item whose first line starts with `head`, with the comments and

@@ -3,11 +3,13 @@
 //! instruction and with slicing by 8. The calls here test the whole store each
 //! time, which the Rust does not; what that costs is shown apart. Many reads in
 //! one call and batches of writes, which the Rust does not have, stand beside as
-//! many calls, and the list of what holds data beside plain walks.
+//! many calls, and the list of what holds data beside plain walks. The call for
+//! archives stands beside `write`, in time and in what it leaves of a long file.
 //!
-//! `bench [reads] [many] [writes] [batches] [extents] [stretches]`: those parts, or
-//! all of them.
+//! `bench [reads] [many] [writes] [batches] [archive] [extents] [stretches]`: those
+//! parts, or all of them.
 
+mod archive;
 mod batches;
 mod checksum;
 mod many;
@@ -61,6 +63,9 @@ fn main() {
     }
     if part("batches") {
         batches::compared();
+    }
+    if part("archive") {
+        archive::compared();
     }
     if part("extents") {
         by_extents();

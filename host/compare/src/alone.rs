@@ -8,6 +8,7 @@ use model::records::{CARD_BYTES, CARD_SPARE, EXTENT_BYTES, GROUP_BYTES, put_bits
 use model::{BLOCK_BYTES, Call, Card, Extent, Group, MAX_SIZE, Store, Time, UNIT_BYTES, Volume};
 
 use crate::lists::read_many;
+use crate::mixed::write_archive;
 use crate::ranges::data_stretches;
 use crate::writes::{batch_of, write_batch};
 
@@ -33,7 +34,7 @@ const D: u64 = 20;
 const E: u64 = 21;
 const LAST: u64 = u64::MAX - 1;
 
-/// The calls that meet every store: each of the ten, and those that change or
+/// The calls that meet every store: each of the eleven, and those that change or
 /// list nothing. On the sound store all are accepted.
 pub fn calls() -> Vec<Call> {
     let write = |bytes: &[u8]| Call::Write {
@@ -61,9 +62,11 @@ pub fn calls() -> Vec<Call> {
         Call::Settle,
         enter,
         write(&[1, 2, 3]),
+        write_archive(C, 100, &[1, 2, 3], TIME),
         grow(30_000),
         read(50),
         write(&[]),
+        write_archive(C, 100, &[], TIME),
         grow(1_000),
         read(0),
         read_many(&[(C, 65_500, 50), (A, 8_990, 20), (C, 0, 10)], 90),

@@ -59,10 +59,14 @@ impl Difference {
     ) -> Option<Self> {
         let no_card = card.is_none() && document.number == 3 && same_store;
         match (call, &rust.outcome) {
-            (Call::Write { bytes, .. }, Outcome::Accepted(0)) if bytes.is_empty() => {
-                no_card.then_some(Self::EmptyWriteWithoutCard)
-            }
-            (Call::Write { offset, bytes, .. }, Outcome::Refused(Error::LimitExceeded)) => {
+            (
+                Call::Write { bytes, .. } | Call::WriteArchive { bytes, .. },
+                Outcome::Accepted(0),
+            ) if bytes.is_empty() => no_card.then_some(Self::EmptyWriteWithoutCard),
+            (
+                Call::Write { offset, bytes, .. } | Call::WriteArchive { offset, bytes, .. },
+                Outcome::Refused(Error::LimitExceeded),
+            ) => {
                 let taken = bytes.len().min(MAX_TRANSFER_BYTES) as u128;
                 let past = taken > 0 && u128::from(*offset) + taken > MAX_SIZE.into();
                 (no_card && past).then_some(Self::LimitBeforeCard)
@@ -71,7 +75,7 @@ impl Difference {
                 (no_card && *size > MAX_SIZE).then_some(Self::LimitBeforeCard)
             }
             (
-                Call::Write { bytes, time, .. },
+                Call::Write { bytes, time, .. } | Call::WriteArchive { bytes, time, .. },
                 Outcome::Refused(Error::InvalidInput("lent time out of range")),
             ) => {
                 let bad = time.seconds > MAX_SIZE || time.nanoseconds >= 1_000_000_000;
@@ -85,7 +89,9 @@ impl Difference {
             // bound's. The Rust goes on: a later unit stops it, or it leaves
             // a count that no card can hold. It cannot come back below the
             // bound, since no unit ends with fewer blocks than it had.
-            (Call::Write { .. } | Call::Grow { .. }, outcome) if document.number == 14 => {
+            (Call::Write { .. } | Call::WriteArchive { .. } | Call::Grow { .. }, outcome)
+                if document.number == 14 =>
+            {
                 let near = card.is_some_and(|card| card.allocated > MAX_ALLOCATED - MOST_BLOCKS);
                 let went_on = match outcome {
                     Outcome::CountBeyondCard(_) => true,

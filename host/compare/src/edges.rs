@@ -10,10 +10,12 @@ use model::{
 };
 
 use crate::alone::{TIME, fresh, seal};
+use crate::archive::telling;
 use crate::batch::batches;
 use crate::created::created;
 use crate::lists::read_many;
 use crate::many::many;
+use crate::mixed::exchanged;
 use crate::ranges::data_stretches;
 use crate::smallest::smallest;
 use crate::stretches::stretches;
@@ -86,7 +88,7 @@ pub(crate) fn with(store: &Store, change: impl FnOnce(&mut Store)) -> Arc<Store>
     Arc::new(changed)
 }
 
-/// The single calls.
+/// The single calls, but for most of those of `archive`.
 pub fn edges() -> Vec<Edge> {
     let mut all = Vec::new();
     for small in smallest() {
@@ -94,6 +96,7 @@ pub fn edges() -> Vec<Edge> {
     }
     // On the smallest stores, so that they come before the others at little cost.
     all.extend(stretches());
+    all.extend(telling());
     ends(&mut all);
     times(&mut all);
     transfers(&mut all);
@@ -346,6 +349,7 @@ fn nothing(all: &mut Vec<Edge>) {
             read(7, 0, 9),
             read_many(&[(7, 0, 9)], 9),
             read_many(&[(7, 0, 9)], 8),
+            exchanged(&write(7, 1, 1)).expect("a write"),
             write_batch(&[(7, 1, 1)]),
             batch_of(&[(7, 1, 1)], 2, TIME),
             data_stretches(7, 0, 1, 16),
@@ -605,6 +609,14 @@ pub fn pairs() -> Vec<Edge> {
                     ] {
                         all.push(edge(&name, &store, write(7, offset, length)));
                     }
+                    // Whether the unit keeps blocks decides what 13 and 14 say.
+                    for (offset, length) in [(65_530, 10), (5_000, 65_000), (20_000, 10)] {
+                        if count.is_none() {
+                            let write = write(7, offset, length);
+                            let archive = exchanged(&write).expect("a write");
+                            all.push(edge(&name, &store, archive));
+                        }
+                    }
                     all.push(edge(&name, &store, grow(7, 80_000)));
                     if free == 40 && count.is_none() {
                         for (offset, length) in
@@ -740,6 +752,8 @@ pub fn wide() -> (Store, Vec<(Volume, Call)>) {
             for length in [1, 8_192, 12_288, 20_000] {
                 steps.push((volume.clone(), write(7, 0, length)));
             }
+            let archive = exchanged(&write(7, 0, 12_288)).expect("a write");
+            steps.push((volume.clone(), archive));
             // Each write begins with the hint that the one before it left.
             let writes = [(7, 0, 1), (7, 0, 0), (7, 70_000, 5_000), (7, 0, 1)];
             steps.push((volume, write_batch(&writes)));
@@ -760,12 +774,14 @@ pub fn large() -> impl Iterator<Item = (&'static str, Store, Vec<Call>)> {
         let batch = write_batch(&[(7, 0, 5)]);
         let stretches = data_stretches(7, 0, 5, 16);
         let (write, grow) = (write(7, 0, 5), grow(7, 5));
+        let archive = exchanged(&write).expect("a write");
         vec![
             Call::Fill,
             read(7, 0, 5),
             many,
             stretches,
             write,
+            archive,
             batch,
             grow,
         ]

@@ -12,6 +12,7 @@ use std::time::Duration;
 use model::{Answer, Call, Store, passes_refusals_1_and_2};
 
 use crate::alone::{alone, bad_lists, calls, sounds};
+use crate::archive::archives;
 use crate::broken::broken_stores;
 use crate::edges::{Edge, edges, large, pairs, wide};
 use crate::guard::{Guarded, Side};
@@ -111,6 +112,7 @@ impl<'a> Gate<'a> {
     pub fn all(&mut self) -> Outcome {
         self.edges()?;
         self.alone()?;
+        self.archives()?;
         self.wide()?;
         self.histories(SEED, 0, EARLY_CALLS)?;
         self.pairs()?;
@@ -122,6 +124,7 @@ impl<'a> Gate<'a> {
     pub fn guarded(&mut self) -> Outcome {
         self.edges()?;
         self.alone()?;
+        self.archives()?;
         self.histories(SEED + 1, 0, GUARDED_CALLS)
     }
 
@@ -202,6 +205,12 @@ impl<'a> Gate<'a> {
     pub fn alone(&mut self) -> Outcome {
         static ALONE: LazyLock<Vec<Single>> = LazyLock::new(|| prepared(met_by_every_call()));
         self.single(&ALONE)
+    }
+
+    /// Archive writes, mostly each beside the same write.
+    pub fn archives(&mut self) -> Outcome {
+        static ARCHIVES: LazyLock<Vec<Single>> = LazyLock::new(|| prepared(archives()));
+        self.single(&ARCHIVES)
     }
 
     pub fn pairs(&mut self) -> Outcome {
@@ -356,6 +365,7 @@ impl<'a> Gate<'a> {
             "fresh",
             "enter",
             "write",
+            "write_archive",
             "grow",
             "read",
             "read_many",

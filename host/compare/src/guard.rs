@@ -173,6 +173,23 @@ impl Library for Guarded<'_> {
                 };
                 self.library.lent(guarded, request)
             }
+            Request::WriteArchive {
+                object,
+                offset,
+                bytes,
+                seconds,
+                nanoseconds,
+            } => {
+                let bytes = Pages::read_only(bytes, self.side);
+                let request = Request::WriteArchive {
+                    object,
+                    offset,
+                    bytes: bytes.bytes(),
+                    seconds,
+                    nanoseconds,
+                };
+                self.library.lent(guarded, request)
+            }
             Request::Read {
                 object,
                 offset,

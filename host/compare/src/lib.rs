@@ -1,9 +1,10 @@
 //! Runs calls through document 01's model and what is held against it: the
 //! published Rust (`run`), where listed differences are forgiven, and a library
-//! of the ten calls (`gate`), where none is; or through all three (`three`).
+//! of the eleven calls (`gate`), where none is; or through all three (`three`).
 //! `plain` holds a library against demand 3's plain arrays.
 
 pub mod alone;
+pub mod archive;
 pub mod batch;
 pub mod broken;
 pub mod created;
@@ -16,6 +17,7 @@ pub mod guard;
 pub mod library;
 pub mod lists;
 pub mod many;
+pub mod mixed;
 pub mod plain;
 pub mod ranges;
 pub mod recorded;

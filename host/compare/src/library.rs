@@ -1,4 +1,4 @@
-//! What is held against the model: a library of the ten calls over lent
+//! What is held against the model: a library of the eleven calls over lent
 //! buffers. The model itself, a wrong model and the linked archive can all
 //! stand behind it.
 
@@ -27,6 +27,13 @@ pub enum Request<'a> {
         nanoseconds: u64,
     },
     Write {
+        object: u64,
+        offset: u64,
+        bytes: &'a [u8],
+        seconds: u64,
+        nanoseconds: u64,
+    },
+    WriteArchive {
         object: u64,
         offset: u64,
         bytes: &'a [u8],
@@ -147,6 +154,18 @@ pub fn request<'a>(call: &'a Call, out: &'a mut [u8]) -> Request<'a> {
             seconds: time.seconds,
             nanoseconds: time.nanoseconds,
         },
+        Call::WriteArchive {
+            object,
+            offset,
+            ref bytes,
+            time,
+        } => Request::WriteArchive {
+            object,
+            offset,
+            bytes,
+            seconds: time.seconds,
+            nanoseconds: time.nanoseconds,
+        },
         Call::Grow { object, size, time } => Request::Grow {
             object,
             size,
@@ -241,6 +260,18 @@ fn owned(request: Request<'_>) -> (Call, Option<&mut [u8]>) {
             seconds,
             nanoseconds,
         } => Call::Write {
+            object,
+            offset,
+            bytes: bytes.to_vec(),
+            time: time(seconds, nanoseconds),
+        },
+        Request::WriteArchive {
+            object,
+            offset,
+            bytes,
+            seconds,
+            nanoseconds,
+        } => Call::WriteArchive {
             object,
             offset,
             bytes: bytes.to_vec(),

@@ -74,8 +74,9 @@ impl Plain {
     }
 }
 
-/// A call that was not refused. Of a batch the plain arrays are told how many
-/// writes were done, and take the step of each of those.
+/// A call that was not refused. An archive write takes write's step. Of a batch
+/// the plain arrays are told how many writes were done, and take the step of each
+/// of those.
 fn step(files: &mut BTreeMap<u64, Plain>, call: &Call, done: u64) {
     match call {
         Call::Fresh { .. } => files.clear(),
@@ -83,6 +84,12 @@ fn step(files: &mut BTreeMap<u64, Plain>, call: &Call, done: u64) {
             files.insert(*object, Plain::new(*time));
         }
         Call::Write {
+            object,
+            offset,
+            bytes,
+            time,
+        }
+        | Call::WriteArchive {
             object,
             offset,
             bytes,

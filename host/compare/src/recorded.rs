@@ -242,6 +242,19 @@ impl Writer {
                 }
                 self.u32(*length);
             }
+            Call::WriteArchive {
+                object,
+                offset,
+                bytes,
+                time,
+            } => {
+                self.u8(10);
+                self.u64(*object);
+                self.u64(*offset);
+                self.u32(bytes.len());
+                self.packed(bytes);
+                self.time(*time);
+            }
         }
         self.u32(case.answer.number as usize);
         self.u64(case.answer.count);
@@ -393,6 +406,15 @@ impl<'a> Reader<'a> {
                 units: self.u64(),
                 length: self.u32(),
             },
+            10 => {
+                let (object, offset, length) = (self.u64(), self.u64(), self.u32());
+                Call::WriteArchive {
+                    object,
+                    offset,
+                    bytes: self.packed(length),
+                    time: self.time(),
+                }
+            }
             kind => panic!("a call of kind {kind}"),
         }
     }

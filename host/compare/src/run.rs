@@ -30,6 +30,11 @@ pub struct Tally {
     pub histories: u64,
     pub calls: u64,
     pub compared: u64,
+    /// Of those, archive writes.
+    pub archive: u64,
+    /// Of those, writes and archive writes of files that a history writes by
+    /// both.
+    pub mixed: u64,
     /// Many reads in one call, held against single reads.
     pub many: u64,
     /// Batches of writes, held against single writes.
@@ -86,7 +91,10 @@ fn verdict(store: &Store, compared: &Compared, same_store: bool) -> Verdict {
     // Every listed difference is a call that the document refuses, so the
     // document's store still holds the card as it was.
     let card = match call {
-        Call::Write { object, .. } | Call::Grow { object, .. } | Call::Read { object, .. } => {
+        Call::Write { object, .. }
+        | Call::WriteArchive { object, .. }
+        | Call::Grow { object, .. }
+        | Call::Read { object, .. } => {
             let volume = Volume::decode(store);
             volume.card(*object).copied()
         }
@@ -184,7 +192,7 @@ pub fn compare_history(
     watched_history(seed, number, &|_, _| {}, other, tally)
 }
 
-/// The same, where `watch` is shown each call, of all ten, with the store
+/// The same, where `watch` is shown each call, of all eleven, with the store
 /// before it.
 pub fn watched_history(
     seed: u64,
@@ -197,6 +205,8 @@ pub fn watched_history(
     let mut rust = walk.store.clone();
     *tally.profiles.entry(walk.history.profile).or_default() += 1;
     tally.histories += 1;
+    // Writes and archive writes of each file.
+    let mut mixed: BTreeMap<u64, (u64, u64)> = BTreeMap::new();
     while let Some(event) = walk.event() {
         let call = match event {
             Event::Call(call) => call,
@@ -232,6 +242,11 @@ pub fn watched_history(
             Call::DataStretches { .. } => tally.stretches += 1,
             _ => tally.compared += 1,
         }
+        match call {
+            Call::Write { object, .. } => mixed.entry(object).or_default().0 += 1,
+            Call::WriteArchive { object, .. } => mixed.entry(object).or_default().1 += 1,
+            _ => {}
+        }
         *tally
             .answers
             .entry((call.name(), answer.number))
@@ -258,6 +273,14 @@ pub fn watched_history(
                 }));
             }
         }
+    }
+    for (writes, archive) in mixed.into_values() {
+        tally.archive += archive;
+        tally.mixed += if writes.min(archive) > 0 {
+            writes + archive
+        } else {
+            0
+        };
     }
     if walk.store.image != rust.image {
         let (store, call) = rebuild(seed, number, walk.step);
@@ -298,10 +321,16 @@ impl Tally {
             "{} histories, {} calls, {} of them compared, {} of many reads by single reads, {} batches by single writes, {} lists of stretches by reads of single units",
             self.histories, self.calls, self.compared, self.many, self.batches, self.stretches
         );
+        let _ = writeln!(
+            text,
+            "of the compared calls {} are archive writes, {} are writes and archive writes of files that were written by both",
+            self.archive, self.mixed
+        );
         let _ = writeln!(text, "profiles: {:?}", self.profiles);
         let _ = writeln!(text, "answers by the document's number:");
         for name in [
             "write",
+            "write_archive",
             "grow",
             "read",
             "read_many",

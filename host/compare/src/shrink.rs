@@ -50,33 +50,33 @@ pub fn minimise(
 fn simpler_calls(call: &Call) -> Vec<Call> {
     let mut simpler = Vec::new();
     match call {
-        Call::Write {
+        &Call::Write {
             object,
             offset,
-            bytes,
+            ref bytes,
             time,
         } => {
-            let mut with = |offset: u64, bytes: Vec<u8>| {
-                simpler.push(Call::Write {
-                    object: *object,
-                    offset,
-                    bytes,
-                    time: *time,
-                });
+            let write = |(offset, bytes)| Call::Write {
+                object,
+                offset,
+                bytes,
+                time,
             };
-            let length = bytes.len();
-            for shorter in shorter(length as u64) {
-                let cut = length - shorter as usize;
-                with(*offset, bytes[..length - cut].to_vec());
-                with(offset + cut as u64, bytes[cut..].to_vec());
-            }
-            if bytes.iter().any(|&byte| byte != 1) {
-                with(*offset, vec![1; length]);
-            }
-            if *offset > 0 {
-                with(0, bytes.clone());
-                with(offset / 2, bytes.clone());
-            }
+            simpler.extend(simpler_writes(offset, bytes).into_iter().map(write));
+        }
+        &Call::WriteArchive {
+            object,
+            offset,
+            ref bytes,
+            time,
+        } => {
+            let write = |(offset, bytes)| Call::WriteArchive {
+                object,
+                offset,
+                bytes,
+                time,
+            };
+            simpler.extend(simpler_writes(offset, bytes).into_iter().map(write));
         }
         Call::Read {
             object,
@@ -141,6 +141,25 @@ fn simpler_calls(call: &Call) -> Vec<Call> {
             }
         }
         _ => {}
+    }
+    simpler
+}
+
+/// Offsets and bytes: a part of them, ones for them, and nearer to the start.
+fn simpler_writes(offset: u64, bytes: &[u8]) -> Vec<(u64, Vec<u8>)> {
+    let mut simpler = Vec::new();
+    let length = bytes.len();
+    for shorter in shorter(length as u64) {
+        let cut = length - shorter as usize;
+        simpler.push((offset, bytes[..length - cut].to_vec()));
+        simpler.push((offset + cut as u64, bytes[cut..].to_vec()));
+    }
+    if bytes.iter().any(|&byte| byte != 1) {
+        simpler.push((offset, vec![1; length]));
+    }
+    if offset > 0 {
+        simpler.push((0, bytes.to_vec()));
+        simpler.push((offset / 2, bytes.to_vec()));
     }
     simpler
 }
@@ -388,8 +407,15 @@ fn describe_call(call: &Call) -> String {
             offset,
             bytes,
             time,
+        }
+        | Call::WriteArchive {
+            object,
+            offset,
+            bytes,
+            time,
         } => format!(
-            "call: write object {object} offset {offset}, {} bytes, {time:?}\n",
+            "call: {} object {object} offset {offset}, {} bytes, {time:?}\n",
+            call.name(),
             bytes.len()
         ),
         Call::ReadMany { list, length } => format!(

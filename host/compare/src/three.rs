@@ -1,6 +1,7 @@
 //! Random calls through a library, document 01's model and the published Rust:
 //! the library has to be the model to the last byte in every call, and the
-//! model the Rust in every write, grow and read but for the listed differences.
+//! model the Rust in every write, archive write, grow and read but for the listed
+//! differences.
 //! Many reads in one call, batches of writes and lists of stretches, which the
 //! Rust does not have, are held against its single reads and writes.
 

@@ -7,6 +7,7 @@ use random::Rng;
 use crate::damage::{damage, split_all};
 use crate::generate::{History, Step, crowd};
 use crate::lists::Lists;
+use crate::mixed::Mixed;
 use crate::ranges::Ranges;
 use crate::rough::roughen;
 use crate::writes::Batches;
@@ -17,7 +18,7 @@ pub struct Walk {
     pub store: Store,
     /// Events and calls so far.
     pub step: usize,
-    lists: Option<(Ranges, Lists, Batches)>,
+    lists: Option<(Ranges, Lists, Batches, Mixed)>,
     rough: Option<Rough>,
 }
 
@@ -93,7 +94,7 @@ fn aimed<'a>(rough: &'a mut Option<Rough>, store: &'a Store) -> (&'a Store, Opti
 
 impl Walk {
     /// The history alone, as it is recorded: without many reads in one call,
-    /// batches of writes and lists of stretches.
+    /// batches of writes, lists of stretches and archive writes.
     pub fn new(history: History) -> Self {
         Self {
             store: history.blank(),
@@ -106,13 +107,15 @@ impl Walk {
 
     /// History `number` of `seed` with lists of stretches and many reads in one
     /// call in between, which leave its own calls as they are; and in some
-    /// histories with batches of writes, after which its calls are others.
+    /// histories with batches of writes, and in some with archive writes, after
+    /// which its calls are others.
     pub fn with_lists(seed: u64, number: u64) -> Self {
         let mut walk = Self::new(History::new(seed, number));
         walk.lists = Some((
             Ranges::new(seed, number),
             Lists::new(seed, number),
             Batches::new(seed, number),
+            Mixed::new(seed, number),
         ));
         walk
     }
@@ -243,15 +246,16 @@ impl Walk {
         })
     }
 
-    /// A list of stretches, many reads or a batch of writes, now and then, where
-    /// the walk has them. The stretches come first: so the others are made as
-    /// often as without them, and are the same.
+    /// A list of stretches, many reads, a batch of writes, an archive write or a
+    /// write beside one, now and then, where the walk has them. The stretches come
+    /// first: so the others are made as often as without them, and are the same.
     fn listed(&mut self) -> Option<Call> {
-        let (ranges, lists, batches) = self.lists.as_mut()?;
+        let (ranges, lists, batches, mixed) = self.lists.as_mut()?;
         let (store, left) = aimed(&mut self.rough, &self.store);
         let stretches = ranges.next(&self.history, store);
         let looks = stretches.or_else(|| lists.next(&self.history, store));
-        let call = looks.or_else(|| batches.next(&self.history, store))?;
+        let batch = looks.or_else(|| batches.next(&self.history, store));
+        let call = batch.or_else(|| mixed.next(&self.history, store))?;
         if let Some(left) = left {
             *left -= 1;
         }

@@ -27,6 +27,7 @@ fn the_text_of_the_wrong_models_is_the_models() {
     let same = library(Wrong::NONE);
     let mut gate = Gate::new(&same);
     let result = gate.edges().and_then(|()| gate.alone());
+    let result = result.and_then(|()| gate.archives());
     let result = result.and_then(|()| gate.histories(1, 0, 3_000));
     assert!(result.is_ok(), "{}", result.err().unwrap().report());
 }
@@ -108,7 +109,7 @@ fn what_a_library_does_wrong_is_told() {
             "a batch that stops before its first write told as refused",
             24,
         ),
-        ("a write sets both times", 1),
+        ("a write sets both times", 7),
         (
             "a card put before others leaves their creation times in their places",
             1,
@@ -117,6 +118,12 @@ fn what_a_library_does_wrong_is_told() {
         ("a slot past the end listed", 1),
         ("pairs written before 19 is known", 1),
         ("a stretch reaches before the range", 1),
+        ("an archive write keeps at three runs", 24),
+        ("a write keeps at two runs alone", 24),
+        (
+            "the limit of an archive write tried on the unit's old runs",
+            24,
+        ),
         ("image of no block", 0),
     ] {
         let wrong = library(Wrong::named(name).expect("listed"));

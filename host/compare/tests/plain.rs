@@ -75,6 +75,22 @@ fn stretches_that_are_wrong_are_found() {
     ]);
 }
 
+/// And what is wrong with an archive write, whose step is write's; but not which
+/// blocks it keeps.
+#[test]
+fn archive_writes_that_are_wrong_are_found() {
+    all_found(&[
+        "an archive write keeps written blocks",
+        "an archive write does not read the old bytes",
+        "an archive write leaves the time",
+        "an archive write sets both times",
+        "an archive write leaves the size",
+        "an archive write does not retire what it takes the place of",
+        "an archive write retires the first block of a unit alone",
+        "an archive write leaves the old tail unit",
+    ]);
+}
+
 /// And what is wrong with the times of a card.
 #[test]
 fn times_that_are_wrong_are_found() {

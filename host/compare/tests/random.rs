@@ -3,10 +3,11 @@
 
 use std::time::Duration;
 
-use compare::edges::edges;
+use compare::archive::archives;
+use compare::edges::{Edge, edges};
 use compare::run::{Failure, Judged, Tally, Verdict, compare_history, judge};
 use compare::shrink::{describe, minimise};
-use model::{Call, Store};
+use model::{Call, Store, passes_refusals_1_and_2};
 use oracle::{OracleAnswer, Outcome};
 use wrong::Wrong;
 
@@ -148,6 +149,33 @@ fn stretches_are_units_that_a_read_finds_a_slot_of() {
         assert!(parting(&in_its_place(wrong)) > 0, "{name}");
     }
     if !oracle::skipped("lists of stretches by reads of the Rust") {
+        assert_eq!(parting(&oracle::run), 0);
+    }
+}
+
+/// Archive writes and the writes beside them at the edges of their rules, against
+/// the model, the Rust where it is there, and models whose limits are wrong.
+#[test]
+fn archive_writes_are_the_rusts_with_another_limit() {
+    let parting = |other: &dyn Fn(&mut Store, &Call) -> OracleAnswer| {
+        let mut edges = archives();
+        edges.retain(|edge| passes_refusals_1_and_2(&edge.store));
+        let archive = |edge: &&Edge| matches!(edge.call, Call::WriteArchive { .. });
+        assert!(edges.iter().filter(archive).count() > 1_000);
+        edges.retain(|edge| parts(&judge(&edge.store, &edge.call, other)));
+        edges.len()
+    };
+    assert_eq!(parting(&in_its_place(Wrong::NONE)), 0);
+    for name in [
+        "an archive write keeps at three runs",
+        "an archive write keeps at four runs",
+        "a write keeps at two runs alone",
+        "the limit of an archive write tried on the unit's old runs",
+    ] {
+        let wrong = Wrong::named(name).expect("listed");
+        assert!(parting(&in_its_place(wrong)) > 0, "{name}");
+    }
+    if !oracle::skipped("archive writes of the Rust with the limit of two") {
         assert_eq!(parting(&oracle::run), 0);
     }
 }

@@ -8,6 +8,7 @@ use std::path::PathBuf;
 use compare::broken::sound_store;
 use compare::differences::Difference;
 use compare::lists::read_many;
+use compare::mixed::write_archive;
 use compare::ranges::data_stretches;
 use compare::recorded::{Case, Reader, Source, Writer};
 use compare::run::{Verdict, judge};
@@ -94,10 +95,10 @@ fn the_sample_is_small_and_shows_every_number() {
     }
 }
 
-/// None are recorded, since the Rust does not have the calls; a failing one is
-/// written, to be run again.
+/// Neither lists nor archive writes are recorded; a failing one is written, to be
+/// run again.
 #[test]
-fn lists_are_written_and_read_again() {
+fn other_calls_are_written_and_read_again() {
     let store = sound_store();
     let cases = [
         read_many(&[(7, 8_990, 20), (9, 0, 10)], 40),
@@ -112,6 +113,8 @@ fn lists_are_written_and_read_again() {
         data_stretches(7, 0, u64::MAX, 20),
         data_stretches(8, 1, 2, 0),
         data_stretches(7, u64::MAX, 1, 3),
+        write_archive(7, 5_000, b"some bytes", TIME),
+        write_archive(8, 0, &[], TIME),
     ]
     .map(|call| {
         let mut after = store.clone();
@@ -139,7 +142,9 @@ fn lists_are_written_and_read_again() {
             (0, false),
             (0, false),
             (3, true),
-            (19, true)
+            (19, true),
+            (0, false),
+            (3, true)
         ]
     );
     let mut writer = Writer::default();

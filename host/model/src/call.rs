@@ -36,6 +36,13 @@ pub enum Call {
         bytes: Vec<u8>,
         time: Time,
     },
+    /// The archive writer's write.
+    WriteArchive {
+        object: u64,
+        offset: u64,
+        bytes: Vec<u8>,
+        time: Time,
+    },
     Grow {
         object: u64,
         size: u64,
@@ -77,6 +84,7 @@ impl Call {
             Self::Fresh { .. } => "fresh",
             Self::Enter { .. } => "enter",
             Self::Write { .. } => "write",
+            Self::WriteArchive { .. } => "write_archive",
             Self::Grow { .. } => "grow",
             Self::Read { .. } => "read",
             Self::ReadMany { .. } => "read_many",
@@ -91,7 +99,7 @@ impl Call {
     pub fn compared(&self) -> bool {
         matches!(
             self,
-            Self::Write { .. } | Self::Grow { .. } | Self::Read { .. }
+            Self::Write { .. } | Self::WriteArchive { .. } | Self::Grow { .. } | Self::Read { .. }
         )
     }
 

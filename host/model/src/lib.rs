@@ -25,6 +25,10 @@ pub const GROUP_BLOCKS: u64 = 16_384;
 pub const MAX_BLOCKS: u64 = 65_536;
 pub const MAX_PLACES: usize = 1_048_575;
 pub const MAX_TRANSFER_BYTES: usize = 1_048_576;
+/// The most runs at which a unit keeps old blocks.
+pub const MAX_RUNS: usize = 4;
+/// The same in an archive write.
+pub const ARCHIVE_RUNS: usize = 2;
 /// The most triples of a list.
 pub const MAX_TRIPLES: usize = 64;
 /// 2^63 - 1: the largest file size and the largest number of seconds.

@@ -12,8 +12,8 @@ use crate::records::{
 };
 use crate::store::{Store, map_bytes};
 use crate::{
-    BLOCK_BYTES, BLOCKS_PER_UNIT, GROUP_BLOCKS, MAX_ALLOCATED, MAX_BLOCKS, MAX_PLACES, MAX_SIZE,
-    MAX_TRANSFER_BYTES, MAX_TRIPLES, UNIT_BYTES, UNITS_PER_GROUP,
+    ARCHIVE_RUNS, BLOCK_BYTES, BLOCKS_PER_UNIT, GROUP_BLOCKS, MAX_ALLOCATED, MAX_BLOCKS,
+    MAX_PLACES, MAX_RUNS, MAX_SIZE, MAX_TRANSFER_BYTES, MAX_TRIPLES, UNIT_BYTES, UNITS_PER_GROUP,
 };
 
 /// A refusal's number.
@@ -59,7 +59,16 @@ fn answer(store: &mut Store, call: &Call, output: &mut [u8]) -> Result<Told, Ref
             offset,
             bytes,
             time,
-        } => write(store, *object, *offset, bytes, *time),
+        } => write(store, MAX_RUNS, *object, *offset, bytes, *time),
+        // W-207: "The archive writer gets its own write call in which a unit
+        // keeps old blocks only at two runs or fewer. Simulators keep the
+        // limit of four."
+        Call::WriteArchive {
+            object,
+            offset,
+            bytes,
+            time,
+        } => write(store, ARCHIVE_RUNS, *object, *offset, bytes, *time),
         Call::Grow { object, size, time } => grow(store, *object, *size, *time),
         Call::Read { object, offset, .. } => read(store, *object, *offset, output),
         Call::ReadMany { list, .. } => read_many(store, list, output),
@@ -272,9 +281,11 @@ fn enter(store: &mut Store, object: u64, time: Time) -> Result<u64, Refusal> {
 }
 
 /// "empty bytes answer 0 and change nothing. Otherwise at most 1,048,576
-/// bytes are taken, and that count is the answer."
+/// bytes are taken, and that count is the answer." `limit` is the most runs at
+/// which a unit keeps old blocks.
 fn write(
     store: &mut Store,
+    limit: usize,
     object: u64,
     offset: u64,
     bytes: &[u8],
@@ -300,8 +311,12 @@ fn write(
         units.push(tail);
     }
     units.extend(touched);
-    let written = Some(Written { offset, bytes });
-    rewrite(store, card, new_size, written, &units, time)?;
+    let change = Change {
+        new_size,
+        written: Some(Written { offset, bytes }),
+        limit,
+    };
+    rewrite(store, card, change, &units, time)?;
     Ok(bytes.len() as u64)
 }
 
@@ -320,7 +335,12 @@ fn grow(store: &mut Store, object: u64, size: u64, time: Time) -> Result<u64, Re
     } else {
         vec![card.size / UNIT_BYTES]
     };
-    rewrite(store, card, size, None, &units, time)?;
+    let growth = Change {
+        new_size: size,
+        written: None,
+        limit: MAX_RUNS,
+    };
+    rewrite(store, card, growth, &units, time)?;
     Ok(0)
 }
 
@@ -592,6 +612,15 @@ impl Written<'_> {
     }
 }
 
+/// What a write or a grow makes of its file.
+#[derive(Clone, Copy)]
+struct Change<'a> {
+    new_size: u64,
+    written: Option<Written<'a>>,
+    /// The most runs at which a unit keeps old blocks.
+    limit: usize,
+}
+
 /// What a unit becomes.
 struct Rewritten {
     unit: u64,
@@ -666,11 +695,15 @@ fn rewrite_unit(
     volume: &Volume,
     image: &[u8],
     card: &Card,
-    new_size: u64,
-    written: Option<Written<'_>>,
+    change: Change<'_>,
     unit: u64,
     carried: &mut Carried,
 ) -> Result<Option<Rewritten>, Refusal> {
+    let Change {
+        new_size,
+        written,
+        limit,
+    } = change;
     let old_valid = valid_length(card.size, unit);
     let new_valid = valid_length(new_size, unit);
     let part = written.as_ref().and_then(|written| written.in_unit(unit));
@@ -697,6 +730,7 @@ fn rewrite_unit(
     // "A block is kept if the old unit was checked, it is mapped, it lies
     // wholly inside both old and new valid length, and no written byte falls
     // in it. If the unit's blocks then form over four runs, none is kept."
+    // W-207: an archive write keeps them "only at two runs or fewer."
     let first = unit * BLOCKS_PER_UNIT;
     let places = new_valid.div_ceil(BLOCK_BYTES);
     let old: Vec<Option<u64>> = (0..BLOCKS_PER_UNIT)
@@ -710,7 +744,7 @@ fn rewrite_unit(
             old[index].filter(|_| checked && inside && !written_into)
         })
         .collect();
-    if runs(&kept, places) > 4 {
+    if runs(&kept, places) > limit {
         kept.fill(None);
     }
 
@@ -754,8 +788,7 @@ fn rewrite_unit(
 fn rewrite(
     store: &mut Store,
     card: Card,
-    new_size: u64,
-    written: Option<Written<'_>>,
+    change: Change<'_>,
     units: &[u64],
     time: Time,
 ) -> Result<(), Refusal> {
@@ -773,8 +806,7 @@ fn rewrite(
             &volume,
             &store.image,
             &card,
-            new_size,
-            written,
+            change,
             unit,
             &mut carried,
         )?);
@@ -807,7 +839,7 @@ fn rewrite(
         if kept.object == card.object {
             *kept = Card {
                 object: card.object,
-                size: new_size,
+                size: change.new_size,
                 allocated: carried.allocated,
                 changed: time,
                 created: card.created,

@@ -88,6 +88,16 @@ mod cases {
         oracle::run(store, &call).outcome
     }
 
+    fn write_archive(store: &mut Store, object: u64, offset: u64, bytes: &[u8]) -> Outcome {
+        let call = Call::WriteArchive {
+            object,
+            offset,
+            bytes: bytes.to_vec(),
+            time: TIME,
+        };
+        oracle::run(store, &call).outcome
+    }
+
     fn grow(store: &mut Store, object: u64, size: u64) -> Outcome {
         let call = Call::Grow {
             object,
@@ -148,6 +158,140 @@ mod cases {
             );
             assert_eq!(extents(&store), expected);
         }
+    }
+
+    /// A file 7 of one whole unit in blocks 1 to 16, or with a block left out before
+    /// each of these places; then so many blocks are free, all behind it.
+    fn unit_of_16(seams: &[u64], free: u64) -> Store {
+        let seam = |place: u64| seams.contains(&place);
+        let blocks = 17 + seams.len() as u64;
+        let mut store = store_with(7, blocks + free, 1);
+        let mut volume = Volume::decode(&store);
+        // The blocks left out are used while the unit is laid down, and stay so.
+        let mut next = 0;
+        for place in 0..16 {
+            next += 1;
+            if seam(place) {
+                volume.used[next] = true;
+                next += 1;
+            }
+        }
+        volume.encode(&mut store);
+        let written = write(&mut store, 7, 0, &[5; 65_536]);
+        assert_eq!(written, Outcome::Accepted(65_536));
+        assert_eq!(extents(&store).len(), 1 + seams.len());
+        store
+    }
+
+    fn retired(store: &Store) -> usize {
+        let retired = Volume::decode(store).retired;
+        retired.iter().filter(|retired| **retired).count()
+    }
+
+    /// How many blocks an archive write of these blocks retires, and a write.
+    fn retire(store: &Store, blocks: std::ops::Range<usize>) -> (usize, usize) {
+        let bytes = vec![6; blocks.len() * 4_096];
+        let offset = blocks.start as u64 * 4_096;
+        let accepted = Outcome::Accepted(bytes.len() as u64);
+        let (mut by_archive, mut by_write) = (store.clone(), store.clone());
+        let told = write_archive(&mut by_archive, 7, offset, &bytes);
+        assert_eq!(told, accepted);
+        assert_eq!(write(&mut by_write, 7, offset, &bytes), accepted);
+        (retired(&by_archive), retired(&by_write))
+    }
+
+    /// W-207: "The oracle for the archive call is file.rs with `MAX_UNIT_RUNS` set
+    /// to 2." Were the limit still four, it would retire as many as a write.
+    #[test]
+    fn an_archive_write_keeps_at_two_runs() {
+        let piece = unit_of_16(&[], 20);
+        // Kept, new, kept: three runs.
+        assert_eq!(retire(&piece, 5..6), (16, 1));
+        assert_eq!(retire(&piece, 1..15), (16, 14));
+        // At the edge: two.
+        assert_eq!(retire(&piece, 0..1), (1, 1));
+        assert_eq!(retire(&piece, 15..16), (1, 1));
+        assert_eq!(retire(&piece, 0..9), (9, 9));
+        assert_eq!(retire(&piece, 0..16), (16, 16));
+    }
+
+    #[test]
+    fn an_archive_write_puts_a_unit_in_one_piece() {
+        let piece = unit_of_16(&[], 20);
+        let (mut by_archive, mut by_write) = (piece.clone(), piece);
+        write_archive(&mut by_archive, 7, 20_480, &[6; 4_096]);
+        assert_eq!(extents(&by_archive), [[7, 0, 17, 16]]);
+        write(&mut by_write, 7, 20_480, &[6; 4_096]);
+        let three = [[7, 0, 1, 5], [7, 5, 17, 1], [7, 6, 7, 10]];
+        assert_eq!(extents(&by_write), three);
+    }
+
+    /// A seam on the device: at the edge there are three runs, and two only where
+    /// one side of the seam is overwritten whole.
+    #[test]
+    fn an_archive_write_counts_a_seam() {
+        let two = unit_of_16(&[8], 20);
+        assert_eq!(retire(&two, 0..1), (16, 1));
+        assert_eq!(retire(&two, 15..16), (16, 1));
+        assert_eq!(retire(&two, 0..8), (8, 8));
+        assert_eq!(retire(&two, 8..16), (8, 8));
+        let three = unit_of_16(&[5, 11], 20);
+        assert_eq!(retire(&three, 0..1), (16, 1));
+        assert_eq!(retire(&three, 0..11), (11, 11));
+        // In the middle of three pieces: five runs, and neither keeps.
+        assert_eq!(retire(&three, 7..8), (16, 16));
+    }
+
+    /// A write and then another, with a gap between them: five runs.
+    #[test]
+    fn two_blocks_apart_are_five_runs() {
+        let mut store = unit_of_16(&[], 40);
+        assert_eq!(
+            write(&mut store, 7, 3 * 4_096, &[6; 4_096]),
+            Outcome::Accepted(4_096)
+        );
+        assert_eq!(retire(&store, 9..10), (1 + 16, 1 + 16));
+    }
+
+    #[test]
+    fn an_archive_write_finds_too_few_blocks() {
+        let mut store = unit_of_16(&[], 15);
+        let before = store.clone();
+        assert_eq!(
+            write_archive(&mut store, 7, 20_480, &[6; 4_096]),
+            Outcome::Refused(Error::NoSpace)
+        );
+        assert_eq!(store, before);
+        assert_eq!(
+            write_archive(&mut store, 7, 0, &[6; 4_096]),
+            Outcome::Accepted(4_096)
+        );
+        let mut store = before;
+        assert_eq!(
+            write(&mut store, 7, 20_480, &[6; 4_096]),
+            Outcome::Accepted(4_096)
+        );
+    }
+
+    /// Grow stays with the published limit.
+    #[test]
+    fn a_grow_keeps_at_four_runs() {
+        let mut store = store_with(7, 40, 1);
+        write(&mut store, 7, 0, &[5; 4 * 4_096 - 10]);
+        // The last block is not whole, and new as well: four runs.
+        write(&mut store, 7, 4_096, &[6; 4_096]);
+        assert_eq!(
+            extents(&store),
+            [[7, 0, 1, 1], [7, 1, 5, 1], [7, 2, 3, 1], [7, 3, 6, 1]]
+        );
+        assert_eq!(retired(&store), 2);
+        // Three kept, of which no two adjoin, and what is new behind them: four.
+        let mut by_archive = store.clone();
+        assert_eq!(grow(&mut store, 7, 65_536), Outcome::Accepted(0));
+        assert_eq!(retired(&store), 2 + 1);
+        let told = write_archive(&mut by_archive, 7, 65_536, &[1]);
+        assert_eq!(told, Outcome::Accepted(1));
+        assert_eq!(retired(&by_archive), 2 + 4);
     }
 
     #[test]

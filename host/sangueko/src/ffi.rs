@@ -75,6 +75,29 @@ unsafe extern "C" {
         nanoseconds: u64,
     ) -> Answer;
 
+    fn sangueko_write_archive(
+        image: *mut u8,
+        image_len: usize,
+        head: *mut u8,
+        head_len: usize,
+        cards: *mut u8,
+        cards_len: usize,
+        extents: *mut u8,
+        extents_len: usize,
+        groups: *mut u8,
+        groups_len: usize,
+        used: *mut u8,
+        used_len: usize,
+        retired: *mut u8,
+        retired_len: usize,
+        object: u64,
+        offset: u64,
+        bytes: *const u8,
+        bytes_len: usize,
+        seconds: u64,
+        nanoseconds: u64,
+    ) -> Answer;
+
     fn sangueko_grow(
         image: *mut u8,
         image_len: usize,
@@ -285,6 +308,40 @@ pub fn write(
 ) -> Result<u64, Refusal> {
     result(unsafe {
         sangueko_write(
+            store.image.as_mut_ptr(),
+            store.image.len(),
+            store.head.as_mut_ptr(),
+            store.head.len(),
+            store.cards.as_mut_ptr(),
+            store.cards.len(),
+            store.extents.as_mut_ptr(),
+            store.extents.len(),
+            store.groups.as_mut_ptr(),
+            store.groups.len(),
+            store.used.as_mut_ptr(),
+            store.used.len(),
+            store.retired.as_mut_ptr(),
+            store.retired.len(),
+            object,
+            offset,
+            bytes.as_ptr(),
+            bytes.len(),
+            seconds,
+            nanoseconds,
+        )
+    })
+}
+
+pub fn write_archive(
+    store: &mut Store<'_>,
+    object: u64,
+    offset: u64,
+    bytes: &[u8],
+    seconds: u64,
+    nanoseconds: u64,
+) -> Result<u64, Refusal> {
+    result(unsafe {
+        sangueko_write_archive(
             store.image.as_mut_ptr(),
             store.image.len(),
             store.head.as_mut_ptr(),

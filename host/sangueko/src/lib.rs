@@ -29,6 +29,10 @@
 //! # Ok::<(), Refusal>(())
 //! ```
 //!
+//! [`Store::write_archive`] writes as [`Store::write`] does and keeps fewer old
+//! blocks, so that a file lies in fewer pieces. Both may be called on one store in
+//! any order.
+//!
 //! A card holds a file's size, when it was created and when it last changed; no
 //! call gives them, but the bytes may be read. [`CARD_BYTES`] lists the fields.
 //!

@@ -135,6 +135,63 @@ impl Store<'_> {
         ffi::write(self, object, offset, bytes, seconds, nanoseconds)
     }
 
+    /// Writes as [`write`](Store::write) does, for files that are read end to
+    /// end. What the file then holds, its size, its times and the answer are the
+    /// same; only where its bytes lie can differ.
+    ///
+    /// A write rewrites a unit, of [`UNIT_BYTES`](crate::UNIT_BYTES), in new
+    /// blocks. The old ones that it writes no byte into, and that the file fills
+    /// before and after it, stay if the unit then has few runs; else none does. A
+    /// run is blocks of the unit side by side that are all new, or all kept and
+    /// side by side in the image too. `write`, each write of a batch and
+    /// [`grow`](Store::grow) keep blocks at four runs or fewer, and this call at
+    /// two or fewer. So it leaves at most one run of old blocks in a unit that it
+    /// rewrites; the new ones lie where free ones are found.
+    ///
+    /// One changed byte can take as many new blocks as its unit has, up to 16, and
+    /// retire as many, where `write` takes one. Both may be called on one store,
+    /// and on one file, in any order.
+    ///
+    /// # Errors
+    ///
+    /// Those of `write`, in the same order. Since it can take more blocks,
+    /// [`NoSpace`](Refusal::NoSpace) can come where `write` is accepted; and
+    /// [`NoExtentPlace`](Refusal::NoExtentPlace) can come by one of the two alone,
+    /// as the number of extents that they leave differs.
+    ///
+    /// ```
+    /// # use sangueko::{Places, Refusal, StoreBuf};
+    /// # let mut buffers = StoreBuf::new(40, Places { cards: 1, extents: 8, groups: 1 })?;
+    /// # let mut store = buffers.lend();
+    /// # store.fresh(&[0; 16], 0)?;
+    /// store.enter(7, 1_700_000_000, 0)?;
+    /// store.write(7, 0, &[1; 65_536], 1_700_000_001, 0)?; // a unit, in 16 blocks
+    /// // In its middle: kept, new and kept blocks are three runs.
+    /// assert_eq!(store.write(7, 30_000, b"one", 1_700_000_002, 0), Ok(3));
+    /// assert_eq!(store.settle(), Ok(1));
+    /// assert_eq!(store.write_archive(7, 30_000, b"all", 1_700_000_003, 0), Ok(3));
+    /// assert_eq!(store.settle(), Ok(16));
+    /// // At its beginning there are two, by both.
+    /// assert_eq!(store.write_archive(7, 0, b"new", 1_700_000_004, 0), Ok(3));
+    /// assert_eq!(store.settle(), Ok(1));
+    ///
+    /// // Of 40 blocks 16 are the file's. 16 more leave 8: enough for one, not for 16.
+    /// assert_eq!(store.write_archive(7, 30_000, b"all", 1_700_000_005, 0), Ok(3));
+    /// assert_eq!(store.write_archive(7, 30_000, b"all", 0, 0), Err(Refusal::NoSpace));
+    /// assert_eq!(store.write(7, 30_000, b"one", 0, 0), Ok(3));
+    /// # Ok::<(), Refusal>(())
+    /// ```
+    pub fn write_archive(
+        &mut self,
+        object: u64,
+        offset: u64,
+        bytes: &[u8],
+        seconds: u64,
+        nanoseconds: u64,
+    ) -> Result<u64, Refusal> {
+        ffi::write_archive(self, object, offset, bytes, seconds, nanoseconds)
+    }
+
     /// Makes the file `size` bytes long; the new bytes read as zeros, and take
     /// blocks only as far as the unit that the file ended in. Answers 0. The
     /// time of the file's last change becomes the one given; that of its creation

@@ -74,9 +74,12 @@ fn with_file() -> StoreBuf {
 type Call = fn(&mut Store<'_>) -> Option<Refusal>;
 
 /// The calls that read the cards, all but fresh.
-const CALLS: [(&str, Call); 9] = [
+const CALLS: [(&str, Call); 10] = [
     ("enter", |store| store.enter(9, 0, 0).err()),
     ("write", |store| store.write(7, 0, b"b", 0, 0).err()),
+    ("write_archive", |store| {
+        store.write_archive(7, 0, b"b", 0, 0).err()
+    }),
     ("grow", |store| store.grow(7, 100, 0, 0).err()),
     ("read", |store| store.read(7, 0, &mut [0]).err()),
     ("read_many", |store| store.read_many(&[], &mut []).err()),
@@ -139,6 +142,9 @@ fn what_changes_a_file_keeps_the_time_of_its_creation() {
     // also where the time given is an earlier one, or the largest
     assert_eq!(buffers.lend().write(7, 5_000, b"over", 50, 0), Ok(4));
     expect(&buffers, (50, 0));
+    let archived = buffers.lend().write_archive(7, 5_000, b"over", 102, 202);
+    assert_eq!(archived, Ok(4));
+    expect(&buffers, (102, 202));
     let most = (MOST_SECONDS, 999_999_999);
     assert_eq!(buffers.lend().grow(7, 70_000, most.0, most.1), Ok(0));
     expect(&buffers, most);
@@ -179,6 +185,7 @@ fn what_changes_nothing_keeps_both_times() {
     let kept = buffers.clone();
     let mut store = buffers.lend();
     assert_eq!(store.write(7, 0, &[], 500, 600), Ok(0));
+    assert_eq!(store.write_archive(7, 0, &[], 500, 600), Ok(0));
     assert_eq!(store.grow(7, 5, 500, 600), Ok(0));
     let nothing = [Range {
         object: 7,

@@ -11,6 +11,7 @@ use compare::batch::shared_block;
 use compare::gate::judge;
 use compare::library::Library;
 use compare::lists::read_many;
+use compare::mixed::exchanged;
 use compare::ranges::data_stretches;
 use compare::stretches::slotted;
 use compare::writes::write_batch;
@@ -34,12 +35,16 @@ fn the_library_answers_as_the_model() {
 }
 
 /// Every number that a call gives, all of which the gate meets. A grow does not
-/// give 15: the tail unit that it rewrites has its group. A batch gives those of a
-/// write, and 18.
-const NUMBERS: [(&str, &[u32]); 10] = [
+/// give 15: the tail unit that it rewrites has its group. An archive write gives
+/// those of a write, and a batch those and 18.
+const NUMBERS: [(&str, &[u32]); 11] = [
     ("fresh", &[0, 1]),
     ("enter", &[0, 1, 2, 4, 7, 8]),
     ("write", &[0, 1, 2, 3, 5, 7, 9, 10, 11, 12, 13, 14, 15, 16]),
+    (
+        "write_archive",
+        &[0, 1, 2, 3, 5, 7, 9, 10, 11, 12, 13, 14, 15, 16],
+    ),
     ("grow", &[0, 1, 2, 3, 5, 6, 7, 9, 10, 11, 12, 13, 14, 16]),
     ("read", &[0, 1, 2, 3, 9, 10, 11, 12]),
     ("read_many", &[0, 1, 2, 3, 9, 10, 11, 12, 17]),
@@ -89,7 +94,7 @@ fn each_call_runs_on_256_kib_of_stack() {
         bytes: vec![3; length],
         time: TIME,
     };
-    let mut store = model::Store::blank(900, 1, 600, 2);
+    let mut store = model::Store::blank(1_200, 1, 600, 2);
     for call in [
         fresh(16, 1),
         Call::Enter {
@@ -99,6 +104,10 @@ fn each_call_runs_on_256_kib_of_stack() {
         write(1_000, 1 << 20),
         write(500, 1 << 20),
         write((1 << 20) + 300_000, 1 << 20),
+        Call::Settle,
+        exchanged(&write(5_000, 1 << 20)).expect("a write"),
+        Call::Settle,
+        exchanged(&write((5 << 19) + 7, 1 << 20)).expect("a write"),
         Call::Settle,
         Call::Grow {
             object: 7,
@@ -111,7 +120,7 @@ fn each_call_runs_on_256_kib_of_stack() {
             length: 1 << 20,
         },
         most_reads(),
-        data_stretches(7, 0, u64::MAX, 32),
+        data_stretches(7, 0, u64::MAX, 48),
         Call::Settle,
         write_batch(&[(7, 77, 1 << 20), (7, 5 << 20, 70_000)]),
         Call::Settle,

@@ -64,9 +64,10 @@ fn advice(refusal: Refusal) -> (&'static str, &'static str) {
              again, or restore from a copy. Other files and units are not touched by it.",
         ),
         Refusal::NoSpace => (
-            "write, batch, grow",
+            "write, with --archive sooner than without, batch, grow",
             "`sangueko settle FOLDER` lets retired blocks go; `sangueko show FOLDER` tells how many there are. If that is too few, make a larger \
-             store and copy the files over with read and write. What a write stored in earlier calls, or a batch in earlier \
+             store and copy the files over with read and write. `write --archive` can take 16 blocks where one changes: without --archive the same \
+             write may be accepted. What a write stored in earlier calls, or a batch in earlier \
              writes, stays stored, and the message says how much.",
         ),
         Refusal::CountDisagrees => (
@@ -81,7 +82,8 @@ fn advice(refusal: Refusal) -> (&'static str, &'static str) {
         Refusal::NoExtentPlace => (
             "write, batch, grow",
             "The files lie in too many pieces for the book. Settle, then write files again in one go, or make a store with more \
-             --extents; as many as there are blocks are always enough.",
+             --extents; as many as there are blocks are always enough. `write --archive` leaves a unit in fewer pieces than `write` where \
+             free blocks lie side by side.",
         ),
         Refusal::BadReads => (
             "no command, since the tool makes its lists itself; programs that call the library",

@@ -30,6 +30,7 @@ folder (--no-wait).
 Results go to standard output, errors to standard error.
 ";
 
+pub const ARCHIVE: &str = "--archive";
 const NO_WAIT: &str = "--no-wait";
 const JSON: &str = "--json";
 
@@ -67,7 +68,7 @@ Adds the file of number OBJECT, with no bytes. It is created, and has last chang
         name: "write",
         words: &["FOLDER", "OBJECT", "[FILE]"],
         options: &["--at", "--time"],
-        switches: &[NO_WAIT],
+        switches: &[ARCHIVE, NO_WAIT],
         help: "\
 Writes FILE, or standard input where it is not named or `-`, into the file OBJECT, over what is there and past its
 end. The time is that of its last change; when it was created stays as it is. A call of the library takes at most
@@ -75,8 +76,12 @@ end. The time is that of its last change; when it was created stays as it is. A 
 and the message says how many bytes they were.
 
   --at OFFSET    the first byte to write (0)
+  --archive      for a file that is read end to end: a unit keeps old blocks only at two runs or fewer, and not at four, so
+                 that it lies in fewer pieces; a small write then takes up to 16 blocks, and 13 can come sooner
   --time S       seconds since 1970, with up to nine digits after a point (now)
   --no-wait      do not wait for another process, end with 75
+
+The same bytes are stored with --archive and without, and one file may be written by both in any order.
 ",
     },
     Spec {
@@ -94,7 +99,8 @@ digits for each byte, or @FILE for all that a file holds, 1,048,576 bytes at mos
   --no-wait      do not wait for another process, end with 75
 
 A call of the library makes up to 64 writes, and is stored by itself. It stops at the first write that is refused: those
-before it stay, those behind it are not made, and the message names the line and says how many are stored.
+before it stay, those behind it are not made, and the message names the line and says how many are stored. Each is as
+`sangueko write` without --archive.
 ",
     },
     Spec {

@@ -43,13 +43,13 @@ use crate::args::Given;
 use crate::data::Data;
 use crate::failure::Failure;
 use crate::folder::Folder;
-use crate::help::{COMMANDS, TOP};
+use crate::help::{ARCHIVE, COMMANDS, TOP};
 use crate::json::Json;
 use crate::lock::Wait;
 use crate::picture::{Measures, kinds};
 use crate::ranges::Ranges;
 use crate::records::Records;
-use crate::transfer::{Part, Source, Target};
+use crate::transfer::{Part, Source, Target, To};
 use crate::words::{counted, grouped, hex};
 
 /// Runs the command; the exit code is 0, a refusal's number or one of those above.
@@ -160,16 +160,22 @@ fn enter(given: &Given) -> Result<(), Failure> {
 }
 
 fn write(given: &Given) -> Result<(), Failure> {
-    let (object, time) = (given.number(1, "OBJECT")?, given.time()?);
-    let offset = given.number_option("--at")?.unwrap_or(0);
+    let to = To {
+        object: given.number(1, "OBJECT")?,
+        time: given.time()?,
+        offset: given.number_option("--at")?.unwrap_or(0),
+        archive: given.switch(ARCHIVE),
+    };
     let folder = folder(given)?;
     let source = Source::of(given.optional_word(2))?;
-    let written = transfer::write(folder, object, offset, source, time)?;
+    let written = transfer::write(folder, &to, source)?;
+    let call = if to.archive { "archive call" } else { "call" };
     print(&format!(
-        "wrote {} to file {object} at byte {} in {}\n",
+        "wrote {} to file {} at byte {} in {}\n",
         counted(written.bytes, "byte"),
-        grouped(offset),
-        counted(written.calls, "call")
+        to.object,
+        grouped(to.offset),
+        counted(written.calls, call)
     ))
 }
 

@@ -84,26 +84,28 @@ pub struct Written {
     pub calls: u64,
 }
 
+/// Where a write begins, when it was made, and whether by the call for archives.
+pub struct To {
+    pub object: u64,
+    pub offset: u64,
+    pub time: Time,
+    pub archive: bool,
+}
+
 /// The first bytes are had before the folder is locked: what feeds them may need
 /// the lock itself (`sangueko read A 1 | sangueko write A 2`).
-pub fn write(
-    folder: Folder,
-    object: u64,
-    offset: u64,
-    mut source: Source,
-    time: Time,
-) -> Result<Written, Failure> {
+pub fn write(folder: Folder, to: &To, mut source: Source) -> Result<Written, Failure> {
     let mut progress = Progress::new(source.length);
-    let mut next = source.next(call_bytes(offset), 0)?;
+    let mut next = source.next(call_bytes(to.offset), 0)?;
     let mut open = folder.open()?;
     let mut written = Written { bytes: 0, calls: 0 };
     loop {
         // a call even for no bytes at all, which the library may refuse
-        let taken = write_call(&mut open, object, (offset, written.bytes), &next, time)?;
+        let taken = write_call(&mut open, to, written.bytes, &next)?;
         written.bytes += taken;
         written.calls += 1;
         progress.tell(written.bytes);
-        let at = offset.saturating_add(written.bytes);
+        let at = to.offset.saturating_add(written.bytes);
         let rest = next.split_off(usize::try_from(taken).unwrap_or(next.len()).min(next.len()));
         let whole = next.len() == call_bytes(at - taken);
         next = if rest.is_empty() && whole {
@@ -117,18 +119,21 @@ pub fn write(
     }
 }
 
-fn write_call(
-    open: &mut Open,
-    object: u64,
-    (offset, before): (u64, u64),
-    bytes: &[u8],
-    time: Time,
-) -> Result<u64, Failure> {
-    let at = offset.saturating_add(before);
+fn write_call(open: &mut Open, to: &To, before: u64, bytes: &[u8]) -> Result<u64, Failure> {
+    let To { object, time, .. } = *to;
+    let at = to.offset.saturating_add(before);
     let stored = so_far(before);
-    let doing = format!("write to file {object} at byte {} ({stored})", grouped(at));
+    let write = if to.archive { "archive write" } else { "write" };
+    let doing = format!(
+        "{write} to file {object} at byte {} ({stored})",
+        grouped(at)
+    );
     open.call(&doing, |store| {
-        store.write(object, at, bytes, time.seconds, time.nanoseconds)
+        if to.archive {
+            store.write_archive(object, at, bytes, time.seconds, time.nanoseconds)
+        } else {
+            store.write(object, at, bytes, time.seconds, time.nanoseconds)
+        }
     })
 }
 

@@ -12,14 +12,20 @@ use sangueko::StoreBuf;
 const WRITES: usize = 60;
 
 /// The store after each call of a write, as the program divides it.
-fn states(start: &StoreBuf, offset: u64, bytes: &[u8]) -> Vec<StoreBuf> {
+fn states(start: &StoreBuf, offset: u64, bytes: &[u8], archive: bool) -> Vec<StoreBuf> {
     let mut states = vec![start.clone()];
     let (mut at, mut rest) = (offset, bytes);
     while !rest.is_empty() {
         let mut next = states[states.len() - 1].clone();
         let most = (1_048_576 - at % 65_536) as usize;
         let part = &rest[..rest.len().min(most)];
-        if next.lend().write(1, at, part, 5, 0).is_err() {
+        let mut lent = next.lend();
+        let taken = if archive {
+            lent.write_archive(1, at, part, 5, 0)
+        } else {
+            lent.write(1, at, part, 5, 0)
+        };
+        if taken.is_err() {
             break;
         }
         states.push(next);
@@ -29,6 +35,7 @@ fn states(start: &StoreBuf, offset: u64, bytes: &[u8]) -> Vec<StoreBuf> {
     states
 }
 
+/// By turns without and with `--archive`.
 #[test]
 fn killed_at_random_the_folder_is_a_whole_number_of_calls() {
     let temporary = Temporary::new();
@@ -44,9 +51,10 @@ fn killed_at_random_the_folder_is_a_whole_number_of_calls() {
         let bytes = bytes(1_000 + random.index(2_500_000), round as u64);
         let offset = random.below(1_000_000);
         let source = temporary.file("bytes", &bytes);
-        let states = states(&start, offset, &bytes);
+        let archive = round % 2 == 1;
+        let states = states(&start, offset, &bytes, archive);
         let at = offset.to_string();
-        let words = [
+        let mut words = vec![
             "write",
             folder,
             "1",
@@ -56,6 +64,7 @@ fn killed_at_random_the_folder_is_a_whole_number_of_calls() {
             "--time",
             "5",
         ];
+        words.extend(archive.then_some("--archive"));
         let began = Instant::now();
         let mut child = command(&words)
             .stdout(std::process::Stdio::null())

@@ -15,8 +15,9 @@ use crate::tree::{Edge, Record, Root};
 use super::namespace::{Inode, inode_key};
 use super::{Handle, ObjectId, ObjectKind, Registry, Timestamp, Volume};
 
-/// Run a write, a grow or a read on a store past refusals 1 and 2. A call
-/// that is not accepted leaves the store's bytes as they were.
+/// Run a write, a grow or a read on a store past refusals 1 and 2, the write by
+/// this instance's file.rs. A call that is not accepted leaves the store's bytes
+/// as they were.
 pub fn run(store: &mut Store, call: &Call) -> OracleAnswer {
     let mut output = call.blank_output();
     let outcome = quietly(|| answer(store, call, &mut output));
@@ -43,6 +44,12 @@ fn answer(store: &mut Store, call: &Call, output: &mut [u8]) -> Outcome {
     let handle = |object: &u64| Handle(ObjectId(*object));
     let result = match call {
         Call::Write {
+            object,
+            offset,
+            bytes,
+            time,
+        }
+        | Call::WriteArchive {
             object,
             offset,
             bytes,

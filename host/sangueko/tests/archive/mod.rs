@@ -31,6 +31,13 @@ impl Library for Archive {
                 seconds,
                 nanoseconds,
             } => store.write(object, offset, bytes, seconds, nanoseconds),
+            Request::WriteArchive {
+                object,
+                offset,
+                bytes,
+                seconds,
+                nanoseconds,
+            } => store.write_archive(object, offset, bytes, seconds, nanoseconds),
             Request::Grow {
                 object,
                 size,

@@ -1,4 +1,5 @@
-//! `crate::volume`: the lent store as a `Volume`, and the published file.rs.
+//! `crate::volume`: the lent store as a `Volume`, and the published file.rs. And
+//! `crate::archive`, the same over the file.rs of the archive call.
 
 use std::cell::Cell;
 
@@ -19,9 +20,10 @@ pub use driver::run;
 #[cfg(feature = "mounted")]
 pub use mounted::{Kept, Mounted};
 
-// The published text, from where it stands:
+// The published text, from where it stands, or build.rs's copy of it:
 //     #[path = "<carryfs source>/src/volume/file.rs"] mod file;
-include!(concat!(env!("OUT_DIR"), "/file_mod.rs"));
+//     #[path = "<OUT_DIR>/archive_file.rs"] mod file;
+include!(concat!(env!("OUT_DIR"), file_mod!()));
 
 use namespace::{Inode, inode_key};
 
