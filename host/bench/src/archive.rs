@@ -134,13 +134,18 @@ fn timed(store: &mut Store, mounted: &mut ArchiveMounted, shape: &Shape) -> [f64
 
     let mut made = 0;
     let mut best = [f64::INFINITY; 3];
-    for _ in 0..ROUNDS {
+    for number in 0..ROUNDS {
         let mut round = || {
             made += 1;
             offsets[(made - 1) % offsets.len()]
         };
         let round: Vec<u64> = (0..shape.calls).map(|_| round()).collect();
-        for (best, by) in best.iter_mut().zip([By::Archive, By::Write]) {
+        // The second finds in the cache what the first has read: each is that in turn.
+        let mut turns = [(0, By::Archive), (1, By::Write)];
+        if number % 2 == 1 {
+            turns.reverse();
+        }
+        for (place, by) in turns {
             let mut took = Duration::ZERO;
             for &at in &round {
                 let mut lent = lend(store);
@@ -150,7 +155,7 @@ fn timed(store: &mut Store, mounted: &mut ArchiveMounted, shape: &Shape) -> [f64
                 assert_eq!(told, Ok(bytes.len() as u64));
                 store.copy_records_from(&first);
             }
-            *best = best.min(took.as_secs_f64() / round.len() as f64);
+            best[place] = f64::min(best[place], took.as_secs_f64() / round.len() as f64);
         }
         let mut took = Duration::ZERO;
         for &at in &round {
