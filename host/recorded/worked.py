@@ -5,7 +5,8 @@
 
 Taken from answers.bin: calls on stores of at most 8 blocks and 4 group places, on files of at most 4,200 bytes (a checksum over more takes the
 checker too long), at most two for each kind of call, number and source; accepted fills with reserved blocks and without are two kinds, accepted
-writes and grows of a file whose creation time is its last change's, none, or another are three. The format is README.md's, beside this file.
+writes and grows of a file whose creation time is its last change's, none, or another are three, and each of these is two where the new blocks are
+the lowest free ones or, to lie in one run, others. The format is README.md's, beside this file.
 """
 import struct
 from collections import Counter
@@ -167,17 +168,25 @@ def creation(store, obj):
     return 'as changed' if created == changed else 'other' if created else 'none'
 
 
+def lowest(store, after):
+    """Whether the blocks that became used are the lowest free ones."""
+    before, now = (int.from_bytes(used[5], 'little') for used in (store, after))
+    free = [block for block in range(len(store[0]) // 4096) if not before >> block & 1]
+    new = [block for block in free if now >> block & 1]
+    return new == free[:len(new)]
+
+
 def reserved(store):
     return int.from_bytes(store[1], 'big') >> 62 & (1 << 17) - 1
 
 
-def kind(source, call, number, store):
+def kind(source, call, number, store, after):
     """Of which EACH are taken."""
     more = None
     if number == 0 and call[0] == 'fill':
         more = reserved(store) > 0
     if number == 0 and call[0] in ('write', 'grow'):
-        more = creation(store, call[1])
+        more = creation(store, call[1]), lowest(store, after)
     return call[0], number, source, more
 
 
@@ -198,7 +207,7 @@ def main():
         entries = list(Reader(f.read()).entries())
     text, taken = [HEADER], Counter()
     for n, (source, call, number, count, out, store, after) in enumerate(entries):
-        of = kind(source, call, number, store)
+        of = kind(source, call, number, store, after)
         if taken[of] == EACH or not light(call, number, store, after):
             continue
         taken[of] += 1

@@ -13,16 +13,18 @@ use lib.Seq.{getD-take, length-take-le, drop-cons, drop-length, getD-set-same, g
 use borrow.Author.Tests.{eqb-true, eqb-false, eq-eqb, ne-eqb, ltb-true, ltb-false, lt-ltb, le-ltb, le-leb, lt-leb}
 use Rattle.rules.specs.Lists.{maybe, range, filter, member}
 use Rattle.rules.specs.Sizes.{groupBlocks}
-use Rattle.rules.specs.Allocation.{allocationGroups, groupStart, groupEnd, highest, allocateData, hintAfter}
-use Rattle.rules.proofs.ListLaws.{test-cases, clash, order-cases, if-true, if-false, if-cases, and-right, or-cases, or-left, or-right, member-append, maybe-some, maybe-none, Each, each-none, each-more, each-weaken, each-append, each-insert, each-at}
+use Rattle.rules.specs.Allocation.{allocationGroups, groupStart, groupEnd, highest, firstRun, allocateData, hintAfter}
+use Rattle.rules.proofs.ListLaws.{test-cases, clash, order-cases, if-true, if-false, if-cases, and-right, or-cases, or-left, or-right, member-append, maybe-some, maybe-none, maybe-cases, Each, each-none, each-more, each-weaken, each-append, each-insert, each-at}
 use Rattle.rules.proofs.CountLaws.{filter-each, member-cons, member-nil, member-filter, member-take, each-member, member-each, each-range}
-use Rattle.rules.proofs.AllocationLaws.{highest-in, highest-le, highest-none, highest-of, hintAfter-last, hintAfter-none, tooFew-allocateData}
-use Rattle.allocation.specs.Search.{clear, clearBits, inserts, startAt, groupBits, bitsFrom, held, Room, Within, Collected, Sorted}
-use Rattle.allocation.specs.Carried.{pastHighest, Carried, above, raised, raisedAll, Allocates}
+use Rattle.rules.proofs.AllocationLaws.{highest-in, highest-le, highest-none, highest-of, hintAfter-last, hintAfter-none, firstRun-within, each-allocateData, tooFew-allocateData}
+use Rattle.runs.specs.Runs.{clear}
+use Rattle.allocation.specs.Search.{clearBits, inserts, startAt, groupBits, bitsFrom, foundBits, chosenBits, held, Room, Within, Collected, Sorted, Chosen}
+use Rattle.allocation.specs.Carried.{pastHighest, Carried, above, raised, raisedAll, Answered, Allocates}
 use Rattle.allocation.specs.declared.Taken.{Taken}
 use Rattle.allocation.specs.declared.Allocated.{Allocated}
 use Rattle.allocation.proofs.SearchLaws.{held-count}
-use Rattle.allocation.proofs.FoundLaws.{inserts-allocates}
+use Rattle.allocation.proofs.RunLaws.{said, said-some, said-none}
+use Rattle.allocation.proofs.FoundLaws.{chosen-allocates}
 
 -- ---- the hint
 
@@ -271,30 +273,75 @@ each-inserts P {ys} h (each-more {x = z} p r) = each-inserts P (each-insert ltb 
 pub collected-room : (want : ℕ) (ys zs : List ℕ) (t : Taken) → want ≤ 16 → Collected want ys zs t → Room 16 t
 collected-room want ys zs t w c = let f : t .count ≤ want = c .room .fits in record { fits = omega arith; places = c .room .places }
 
-module _ (map : List ℕ) (blocks hint : ℕ) (past : List ℕ) (want : ℕ) (f t : Taken) (c : Collected want [] (bitsFrom map blocks hint past 0) f) (o : Sorted f t) where
-  -- the blocks given lie in the store
-  pub each-given : Each (λ b. b < blocks) (held t)
-  each-given =
-      let bits : List ℕ = bitsFrom map blocks hint past 0 in
-      let P : ℕ → Type 0 = λ b. b < blocks in
-      rw (o .list, c .list) (each-inserts P each-none (each-member P (take want bits) (λ b m. member-each P (each-bitsFrom map blocks hint past 0) b (member-take b want bits m))))
+-- blocks of which each is below a bound
+within-each : (bound want : ℕ) (t : Taken) → want ≤ 16 → Room want t → Each (λ b. b < bound) (held t) → Within bound t
+within-each bound want t w o h =
+    record {
+      each = λ i l. let e : length (held t) ≡ t .count = held-count want t w o in
+          let m : getD (held t) i 0 < bound = each-at h i 0 (omega arith) in
+          let q : getD (held t) i 0 ≡ getD (t .blocks) i 0 = getD-take (t .count) (t .blocks) i 0 l in
+          omega arith;
+    }
 
-  -- they have room
-  pub room-given : want ≤ 16 → Room 16 t
-  room-given w =
-      let l : f .count ≤ want = c .room .fits in
-      let e : t .count ≡ f .count = o .count in
-      record { fits = omega arith; places = o .places }
+-- the blocks that the search finds first
+pub found-chosen : (map : List ℕ) (blocks hint : ℕ) (past : List ℕ) (want : ℕ) (f t : Taken) → want ≤ 16 → Collected want [] (bitsFrom map blocks hint past 0) f → Sorted f t → Chosen want blocks (foundBits map blocks hint past want) t
+unfolding foundBits
+found-chosen map blocks hint past want f t w c o =
+    let bits : List ℕ = bitsFrom map blocks hint past 0 in
+    let P : ℕ → Type 0 = λ b. b < blocks in
+    let l : f .count ≤ want = c .room .fits in
+    let e : t .count ≡ f .count = o .count in
+    let r : Room want t = record { fits = omega arith; places = o .places } in
+    let d : held t ≡ inserts [] (take want bits) = o .list ∙ ap (inserts []) (c .list) in
+    let h : Each P (held t) = rw d (each-inserts P each-none (each-member P (take want bits) (λ b m. member-each P (each-bitsFrom map blocks hint past 0) b (member-take b want bits m)))) in
+    record { list = d; room = r; within = within-each blocks want t w r h }
 
-  -- each is below a bound
-  pub within-given : (bound : ℕ) → blocks ≤ bound → want ≤ 16 → Within bound t
-  within-given bound m w =
-      record {
-        each = λ i l. let e : length (held t) ≡ t .count = held-count 16 t (omega arith) (room-given w) in
-            let h : getD (held t) i 0 < blocks = each-at each-given i 0 (omega arith) in
-            let q : getD (held t) i 0 ≡ getD (t .blocks) i 0 = getD-take (t .count) (t .blocks) i 0 l in
-            omega arith;
-      }
+-- where there is a run its blocks are chosen
+pub run-chosen : (map : List ℕ) (blocks hint : ℕ) (past : List ℕ) (want b : ℕ) (t : Taken) → want ≤ 16 → b ≡ said blocks (firstRun blocks (clear map) want hint) → b < blocks → held t ≡ range b want → Room want t
+    → Chosen want blocks (chosenBits map blocks hint past want) t
+unfolding chosenBits
+run-chosen map blocks hint past want b t w e l d o =
+    let s : firstRun blocks (clear map) want hint ≡ some b = said-some blocks b (firstRun blocks (clear map) want hint) e l in
+    let m : b + want ≤ blocks = firstRun-within blocks (clear map) want hint b s in
+    let h : Each (λ x. x < blocks) (held t) = rw d (each-weaken {P = λ x. (b ≤ x) × (x < b + want)} (λ x q. omega arith) (each-range b want)) in
+    record {
+      list = d ∙ sym (maybe-some (foundBits map blocks hint past want) (λ x. range x want) (firstRun blocks (clear map) want hint) b s);
+      room = o;
+      within = within-each blocks want t w o h;
+    }
+
+-- its blocks lie in the store
+pub run-within : (map : List ℕ) (blocks hint want b : ℕ) → b ≡ said blocks (firstRun blocks (clear map) want hint) → b < blocks → b + want ≤ blocks
+run-within map blocks hint want b e l = firstRun-within blocks (clear map) want hint b (said-some blocks b (firstRun blocks (clear map) want hint) e l)
+
+-- where there is none those that the search finds first are
+pub found-instead : (map : List ℕ) (blocks hint : ℕ) (past : List ℕ) (want b : ℕ) (t : Taken) → 0 < want → b ≡ said blocks (firstRun blocks (clear map) want hint) → blocks ≤ b → Chosen want blocks (foundBits map blocks hint past want) t
+    → Chosen want blocks (chosenBits map blocks hint past want) t
+unfolding chosenBits
+found-instead map blocks hint past want b t o e l c =
+    let run : Option ℕ = firstRun blocks (clear map) want hint in
+    let s : firstRun blocks (clear map) want hint ≡ none = said-none blocks b run e l (λ x f. let m : x + want ≤ blocks = firstRun-within blocks (clear map) want hint x f in omega arith) in
+    record { list = c .list ∙ sym (maybe-none (foundBits map blocks hint past want) (λ x. range x want) run s); room = c .room; within = c .within }
+
+-- and where no block is wanted there is none
+pub none-chosen : (map : List ℕ) (blocks hint : ℕ) (past : List ℕ) (want : ℕ) (t : Taken) → want ≡ 0 → Room 0 t → Chosen want blocks (chosenBits map blocks hint past want) t
+none-chosen map blocks hint past want t e o =
+    let z : t .count ≤ 0 = o .fits in
+    let d : t .count ≡ 0 = omega arith in
+    record {
+      list = ap (λ (k : ℕ). take k (t .blocks)) d ∙ sym (ap (chosenBits map blocks hint past) e ∙ nothing);
+      room = record { fits = omega arith; places = o .places };
+      within = record { each = λ i l. absurd (omega arith) };
+    }
+  where
+    nothing : chosenBits map blocks hint past 0 ≡ []
+    nothing =
+        unfold chosenBits foundBits inserts range in
+        maybe-cases (λ (bs : List ℕ). bs ≡ []) (foundBits map blocks hint past 0) (λ b. range b 0) (firstRun blocks (clear map) 0 hint) (λ f. refl) (λ b f. refl)
+
+-- the blocks chosen have room
+pub chosen-room : (want blocks : ℕ) (bs : List ℕ) (t : Taken) → want ≤ 16 → Chosen want blocks bs t → Room 16 t
+chosen-room want blocks bs t w c = let f : t .count ≤ want = c .room .fits in record { fits = omega arith; places = c .room .places }
 
 -- a bound that is no less serves too
 pub within-more : (a b : ℕ) (t : Taken) → Within a t → a ≤ b → Within b t
@@ -309,19 +356,23 @@ leb-not a b =
     (λ l. lt-leb a b l ∙ rw (lt-ltb b a l) refl)
 
 -- the answer is the one of the rules
-pub allocates : (map : List ℕ) (blocks hint : ℕ) (past : List ℕ) (want : ℕ) (f : Taken) (r : Allocated) → blocks ≤ 65536 → want ≤ 16
-    → Collected want [] (bitsFrom map blocks hint past 0) f → Sorted f (r .taken)
-    → r .enough ≡ leb want (r .taken .count) → r .hint ≡ hintAfter hint (held (r .taken)) → r .cursors .past ≡ raisedAll past (held (r .taken))
+pub allocates : (map : List ℕ) (blocks hint : ℕ) (past : List ℕ) (want : ℕ) (t : Taken) (r : Allocated) → blocks ≤ 65536 → want ≤ 16
+    → Chosen want blocks (chosenBits map blocks hint past want) t → Answered t hint past want r
     → (used : ℕ → Bool) (taken : List ℕ) → Carried blocks used taken map past → Allocates blocks used hint taken want r
-allocates map blocks hint past want f r m w c o e h p used taken k =
+allocates map blocks hint past want t r m w c a used taken k =
     let new : List ℕ = allocateData blocks used hint taken want in
-    let d : held (r .taken) ≡ new = o .list ∙ ap (inserts []) (c .list) ∙ inserts-allocates blocks used hint taken map past want k in
-    let n : r .taken .count ≡ length new = sym (held-count 16 (r .taken) (omega arith) (room-given map blocks hint past want f (r .taken) c o w)) ∙ ap length d in
+    let d : held t ≡ new = c .list ∙ chosen-allocates blocks used hint taken map past want k in
+    let n : t .count ≡ length new = sym (held-count want t w (c .room)) ∙ ap length d in
+    let each : Each (λ b. b < blocks) new = each-weaken (λ b h. h .0) (each-allocateData blocks used hint taken want) in
     record {
-      enough = e ∙ ap (leb want) n ∙ leb-not want (length new) ∙ ap not (sym (tooFew-allocateData blocks used hint taken want));
-      count = n;
-      given = d;
-      hinted = h ∙ ap (hintAfter hint) d;
-      places = ap length p ∙ raisedAll-places past (held (r .taken)) ∙ k .places;
-      highs = rw (p, ← d) (raisedAll-highs blocks taken past m (k .places) (each-given map blocks hint past want f (r .taken) c o) (k .highs));
+      enough = a .enough ∙ ap (leb want) n ∙ leb-not want (length new) ∙ ap not (sym (tooFew-allocateData blocks used hint taken want));
+      count = ap (λ (x : Taken). x .count) (a .given) ∙ n;
+      given = ap (λ (x : Taken). held x) (a .given) ∙ d;
+      hinted = a .hinted ∙ ap (hintAfter hint) d;
+      places = ap length (a .raised) ∙ raisedAll-places past (held t) ∙ k .places;
+      highs = rw (a .raised, d) (raisedAll-highs blocks taken past m (k .places) each (k .highs));
     }
+
+-- its blocks have room and lie in the store
+pub answered-within : (want blocks hint : ℕ) (bs past : List ℕ) (t : Taken) (r : Allocated) → want ≤ 16 → Chosen want blocks bs t → Answered t hint past want r → Room 16 (r .taken) × Within blocks (r .taken)
+answered-within want blocks hint bs past t r w c a = rw (a .given) (chosen-room want blocks bs t w c, c .within)

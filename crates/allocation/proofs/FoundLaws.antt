@@ -1,5 +1,5 @@
--- What the code collects is what the rules allocate: the bits in the order of the search are the blocks found, and those collected are the first of
--- them, ascending.
+-- What the code chooses is what the rules allocate: the first run of clear bits is that of the blocks that are free and not taken, the bits in the order
+-- of the search are the blocks found, and those collected are the first of them, ascending.
 -- Assumes nothing.
 use mathlib.Core.Path.{_≡_, refl, sym, ap, _∙_}
 use mathlib.Core.List.{List, [], _∷_, _++_, map, flatMap}
@@ -12,11 +12,12 @@ use lib.ListN.{take, getD}
 use borrow.Author.Tests.{eqb-true, eqb-false, lt-ltb}
 use Rattle.rules.specs.Lists.{if_then_else_, maybe, range, all, filter, member, ascending, insert, neighbours}
 use Rattle.rules.specs.Bytes.{bitSet}
-use Rattle.rules.specs.Allocation.{allocationGroups, groupOrder, groupStart, groupEnd, highest, cursor, found, sorted, allocateData}
+use Rattle.rules.specs.Allocation.{allocationGroups, groupOrder, groupStart, groupEnd, highest, cursor, available, found, sorted, foundFirst, firstRun, allocateData}
 use Rattle.rules.proofs.ListLaws.{test-cases, clash, order-cases, if-true, if-false, and-left, and-intro, or-cases, or-left, or-right, or-none-left, or-none-right, filter-append, ascending-insert, each-any, Each}
 use Rattle.rules.proofs.CountLaws.{same-test, flatMap-each, member-first, member-cons, member-nil, Once, once-head, once-tail, once-take, ascending-same, each-member, member-each}
-use Rattle.rules.proofs.AllocationLaws.{highest-in, same-found, found-once, member-first-found, member-sorted, ascending-sorted}
-use Rattle.allocation.specs.Search.{clear, clearBits, inserts, startAt, groupBits, bitsFrom}
+use Rattle.rules.proofs.AllocationLaws.{highest-in, same-found, found-once, available-not, member-first-found, member-sorted, ascending-sorted, firstRun-same}
+use Rattle.runs.specs.Runs.{clear}
+use Rattle.allocation.specs.Search.{clearBits, inserts, startAt, groupBits, bitsFrom, foundBits, chosenBits}
 use Rattle.allocation.specs.Carried.{pastHighest, Carried}
 use Rattle.allocation.proofs.GroupLaws.{start-low, start-high, start-inside}
 use Rattle.allocation.proofs.SortLaws.{inserts-cons}
@@ -135,12 +136,24 @@ inserts-sorted blocks zs o l =
         ∙ rw (member-nil b) (same-test t (t && ltb b blocks) (λ m. and-intro t (ltb b blocks) m (lt-ltb b blocks (member-each (λ x. x < blocks) l b m))) (λ m. and-left t (ltb b blocks) m))
         ∙ sym (member-sorted b blocks zs)
 
--- so that what is taken of the search, put in order, is what the rules allocate
-pub inserts-allocates : (blocks : ℕ) (used : ℕ → Bool) (hint : ℕ) (taken m past : List ℕ) (want : ℕ) → Carried blocks used taken m past
-    → inserts [] (take want (bitsFrom m blocks hint past 0)) ≡ allocateData blocks used hint taken want
-unfolding allocateData
-inserts-allocates blocks used hint taken m past want c =
+-- so that what is taken of the search, put in order, is what the rules find first
+found-allocates : (blocks : ℕ) (used : ℕ → Bool) (hint : ℕ) (taken m past : List ℕ) (want : ℕ) → Carried blocks used taken m past → foundBits m blocks hint past want ≡ foundFirst blocks used hint taken want
+unfolding foundBits foundFirst
+found-allocates blocks used hint taken m past want c =
     let bs : List ℕ = take want (found blocks used hint taken) in
     ap (λ (v : List ℕ). inserts [] (take want v)) (bits-found blocks used hint taken m past c)
     ∙ inserts-sorted blocks bs (once-take want (found blocks used hint taken) (found-once blocks used hint taken))
     (each-member (λ b. b < blocks) bs (λ b i. member-first-found b blocks used hint taken want i .0))
+
+-- the first run of clear bits is that of the blocks that are free and not taken
+run-allocates : (blocks : ℕ) (used : ℕ → Bool) (hint : ℕ) (taken m past : List ℕ) (want : ℕ) → Carried blocks used taken m past
+    → firstRun blocks (clear m) want hint ≡ firstRun blocks (available used taken) want hint
+run-allocates blocks used hint taken m past want c =
+    firstRun-same blocks (clear m) want hint (available used taken) (λ b l. unfold clear in ap not (c .bits b l) ∙ sym (available-not used taken b))
+
+-- and so are the blocks that are chosen
+pub chosen-allocates : (blocks : ℕ) (used : ℕ → Bool) (hint : ℕ) (taken m past : List ℕ) (want : ℕ) → Carried blocks used taken m past
+    → chosenBits m blocks hint past want ≡ allocateData blocks used hint taken want
+unfolding chosenBits allocateData
+chosen-allocates blocks used hint taken m past want c =
+    rw (run-allocates blocks used hint taken m past want c, found-allocates blocks used hint taken m past want c) refl

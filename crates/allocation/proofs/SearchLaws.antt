@@ -17,7 +17,8 @@ use Rattle.rules.proofs.CountLaws.{filter-nothing, range-split, range-first, ra
 use Rattle.bitmap.specs.Map.{bitOf, Next}
 use Rattle.bitmap.proofs.MapLaws.{word-bit}
 use Rattle.bitmap.proofs.BitLaws.{bit-not, bit-zero}
-use Rattle.allocation.specs.Search.{clear, clearBits, Skipped, held, Room, Collected}
+use Rattle.runs.specs.Runs.{clear}
+use Rattle.allocation.specs.Search.{clearBits, Skipped, held, Room, Collected}
 use Rattle.allocation.specs.declared.Taken.{Taken}
 
 -- ---- clear bits

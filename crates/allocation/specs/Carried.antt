@@ -4,13 +4,14 @@ use mathlib.Core.Path.{_≡_}
 use mathlib.Core.Bool.{Bool, not, _||_}
 use mathlib.Core.List.{List, [], _∷_, _++_}
 use Prim.Native.Nat.{ℕ, suc, _*_, _/_, _<_}
-use lib.Dec.{ltb}
+use lib.Dec.{ltb, leb}
 use lib.ListN.{length, getD, set}
 use Rattle.rules.specs.Lists.{if_then_else_, maybe, member}
 use Rattle.rules.specs.Bytes.{bitSet}
 use Rattle.rules.specs.Sizes.{groupBlocks}
 use Rattle.rules.specs.Allocation.{allocationGroups, highest, tooFew, allocateData, hintAfter}
 use Rattle.allocation.specs.Search.{held}
+use Rattle.allocation.specs.declared.Taken.{Taken}
 use Rattle.allocation.specs.declared.Allocated.{Allocated}
 
 -- what is past the highest block taken in a group; 0 where none was
@@ -40,6 +41,13 @@ raised past b = set past (b / groupBlocks) (above (getD past (b / groupBlocks) 0
 unfoldable pub raisedAll : List ℕ → List ℕ → List ℕ
 raisedAll past [] = past
 raisedAll past (b ∷ bs) = raisedAll (raised past b) bs
+
+-- the answer with these blocks: whether they are as many as wanted, and the hint and the cursors after them
+pub record Answered (t : Taken) (hint : ℕ) (past : List ℕ) (want : ℕ) (r : Allocated) : Type 0 where
+  pub given : r .taken ≡ t
+  pub enough : r .enough ≡ leb want (t .count)
+  pub hinted : r .hint ≡ hintAfter hint (held t)
+  pub raised : r .cursors .past ≡ raisedAll past (held t)
 
 -- the answer is the one of the rules: the blocks, whether they are as many as wanted, the hint, and what the next unit is to be asked with
 pub record Allocates (blocks : ℕ) (used : ℕ → Bool) (hint : ℕ) (taken : List ℕ) (want : ℕ) (r : Allocated) : Type 0 where

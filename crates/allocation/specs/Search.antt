@@ -1,20 +1,17 @@
 -- The search for clear bits: what a run of the map adds to the blocks taken so far.
 -- Assumes nothing.
 use mathlib.Core.Path.{_≡_}
-use mathlib.Core.Bool.{Bool, true, not, _&&_}
+use mathlib.Core.Bool.{true, _&&_}
 use mathlib.Core.List.{List, [], _∷_, _++_, flatMap}
 use Prim.Native.Nat.{ℕ, _+_, _-_, _%_, _≤_, _<_}
 use lib.Dec.{ltb}
 use lib.ListN.{length, take, getD}
 use Rattle.rules.specs.Sizes.{unitBlocks}
-use Rattle.rules.specs.Lists.{if_then_else_, range, filter, insert}
+use Rattle.rules.specs.Lists.{if_then_else_, maybe, range, filter, insert}
 use Rattle.rules.specs.Bytes.{bitSet}
-use Rattle.rules.specs.Allocation.{allocationGroups, groupStart, groupEnd}
+use Rattle.rules.specs.Allocation.{allocationGroups, groupStart, groupEnd, firstRun}
+use Rattle.runs.specs.Runs.{clear}
 use Rattle.allocation.specs.declared.Taken.{Taken}
-
--- a block of the map is clear
-unfoldable pub clear : List ℕ → ℕ → Bool
-clear map b = not (bitSet map b)
 
 -- the clear bits from one place on and before another
 unfoldable pub clearBits : List ℕ → ℕ → ℕ → List ℕ
@@ -47,6 +44,15 @@ bitsFrom map blocks hint past i =
     let groups : ℕ = allocationGroups blocks in
     flatMap (λ k. let g : ℕ = (hint % groups + k) % groups in groupBits map blocks (getD past g 0) g) (range i (groups - i))
 
+-- the first of them, ascending
+unfoldable pub foundBits : List ℕ → ℕ → ℕ → List ℕ → ℕ → List ℕ
+foundBits map blocks hint past want = inserts [] (take want (bitsFrom map blocks hint past 0))
+
+-- the first bits of the first run of clear ones, and those where there is none
+unfoldable pub chosenBits : List ℕ → ℕ → ℕ → List ℕ → ℕ → List ℕ
+chosenBits map blocks hint past want =
+    maybe (foundBits map blocks hint past want) (λ b. range b want) (firstRun blocks (clear map) want hint)
+
 -- the blocks that are held
 abbrev pub held : Taken → List ℕ
 held t = take (t .count) (t .blocks)
@@ -76,3 +82,9 @@ pub record Sorted (t r : Taken) : Type 0 where
   pub list : held r ≡ inserts [] (held t)
   pub count : r .count ≡ t .count
   pub places : length (r .blocks) ≡ unitBlocks
+
+-- these blocks, at most so many, each below a bound
+pub record Chosen (want bound : ℕ) (bs : List ℕ) (r : Taken) : Type 0 where
+  pub list : held r ≡ bs
+  pub room : Room want r
+  pub within : Within bound r

@@ -186,7 +186,7 @@ bit-below (suc w) x y (suc j) h =
     rw (bit-half (x + 2 ^ suc w * y) j, bit-half x j, p, e) (bit-below w (x / 2) y j (omega arith))
 
 -- and what is added above them
-bit-above : (w x y j : ℕ) → x < 2 ^ w → bitOf (x + 2 ^ w * y) (w + j) ≡ bitOf y j
+pub bit-above : (w x y j : ℕ) → x < 2 ^ w → bitOf (x + 2 ^ w * y) (w + j) ≡ bitOf y j
 bit-above zero x y j h =
     let e : x + 2 ^ 0 * y ≡ y = omega arith in
     rw (e, zero-add j) refl

@@ -132,7 +132,7 @@ pub fn clear_range(m: &mut [u8], a: usize, e: usize)
 }
 
 // The first bit of a word that is as asked, or 64: the first clear one is the first set one of the inverted word.
-fn first(w: u64, value: bool) -> u32
+pub fn first(w: u64, value: bool) -> u32
     ensures { λ r. ⌜ First w value r ⌝ }
 {
     if value {

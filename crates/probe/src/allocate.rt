@@ -1,7 +1,8 @@
 // `allocate_data`, for tests and the benchmark: unit after unit of one call, with numbers of 64 bits, little-endian, in lent bytes.
 ghost use mathlib.Core.Path.{_≡_};
-ghost use Prim.Native.Nat.{_+_, _≤_};
+ghost use Prim.Native.Nat.{_+_, _*_, _≤_};
 ghost use lib.ListN.{length};
+ghost use Rattle.rules.specs.Sizes.{unitBlocks, mostBlocks};
 use super::MAP_BYTES;
 use allocation::Allocated;
 use allocation::Cursors;
@@ -54,15 +55,35 @@ fn put_answer(past: &mut [u8], out: &mut [u8], r: Allocated)
     put_four(past, 0, p[0], p[1], p[2], p[3]);
 }
 
+// `allocate_data` for one unit, or where `scattered` is asked for the rule of document 01 alone, as it was before W-208: the blocks that the search finds
+// first, whether there is a run or not. Their blocks are set in the map.
+fn unit(
+    map: &mut [u8],
+    blocks: u64,
+    hint: u64,
+    cursors: Cursors,
+    want: usize,
+    scattered: bool,
+) -> Allocated
+    requires { ⌜ (blocks ≤ mostBlocks) × (blocks ≤ 8 * length (now map)) × (want ≤ unitBlocks) ⌝ }
+{
+    if scattered {
+        let t = allocation::found_first(map, blocks, hint, cursors, want);
+        allocation::mark(map, t);
+        return allocation::answer(t, hint, cursors, want);
+    }
+    allocation::allocate_unit(map, blocks, hint, cursors, want)
+}
+
 // The blocks of one unit: how many there are, 17 where they are fewer than wanted, or 18 where the arguments do not fit.
-#[no_mangle]
-pub extern "C" fn sangueko_probe_allocate(
+fn allocate(
     map: &mut [u8],
     blocks: u64,
     hint: u64,
     past: &mut [u8],
     want: usize,
     out: &mut [u8],
+    scattered: bool,
 ) -> usize {
     if MAP_BYTES < map.len() {
         return 18;
@@ -79,10 +100,36 @@ pub extern "C" fn sangueko_probe_allocate(
     if out.len() != 136 {
         return 18;
     }
-    let r = allocation::allocate_unit(map, blocks, hint, cursors_of(past), want);
+    let r = unit(map, blocks, hint, cursors_of(past), want, scattered);
     put_answer(past, out, r);
     if r.enough {
         return want;
     }
     17
+}
+
+// The blocks of one unit.
+#[no_mangle]
+pub extern "C" fn sangueko_probe_allocate(
+    map: &mut [u8],
+    blocks: u64,
+    hint: u64,
+    past: &mut [u8],
+    want: usize,
+    out: &mut [u8],
+) -> usize {
+    allocate(map, blocks, hint, past, want, out, false)
+}
+
+// The same by the rule of document 01 alone: what W-208 costs is measured against it.
+#[no_mangle]
+pub extern "C" fn sangueko_probe_allocate_scattered(
+    map: &mut [u8],
+    blocks: u64,
+    hint: u64,
+    past: &mut [u8],
+    want: usize,
+    out: &mut [u8],
+) -> usize {
+    allocate(map, blocks, hint, past, want, out, true)
 }

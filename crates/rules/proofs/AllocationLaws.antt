@@ -1,7 +1,7 @@
 -- Laws of `allocate_data` (specs/Allocation): the search visits every block once, and what it gives is distinct, free, untaken and as many as wanted.
 -- Assumes nothing.
 use mathlib.Core.Path.{_≡_, refl, sym, ap, _∙_}
-use mathlib.Core.List.{List, [], _∷_, _++_, map, flatMap, getLast?, append-nil, map-append}
+use mathlib.Core.List.{List, [], _∷_, _++_, map, flatMap, getLast?, append-nil, map-append, map-map}
 use mathlib.Core.Bool.{Bool, true, false, not, _&&_, _||_}
 use mathlib.Core.Option.{Option, none, some, Option·none-ne-some}
 use Prim.Native.Nat.{ℕ, zero, suc, _+_, _-_, _*_, _/_, _%_, _≤_, _<_, min}
@@ -9,12 +9,13 @@ use native.Mathlib.Nat.{zero-add, mod-lt, mod-eq-of-lt, mod-eq-sub-mod}
 use native.Mathlib.Omega.{arith}
 use lib.Dec.{eqb, ltb}
 use lib.ListN.{length, take, length-take}
-use borrow.Author.Tests.{ltb-true, ltb-false, lt-ltb, not-true}
-use Rattle.rules.specs.Lists.{if_then_else_, maybe, range, filter, count, member, ascending}
+use borrow.Author.Tests.{ltb-true, ltb-false, lt-ltb, le-ltb, not-true}
+use Rattle.rules.specs.Lists.{if_then_else_, maybe, range, all, filter, count, firstGiven, member, ascending}
 use Rattle.rules.specs.Sizes.{groupBlocks, mostBlocks}
-use Rattle.rules.specs.Allocation.{allocationGroups, groupOrder, groupStart, groupEnd, highest, cursor, searched, available, found, sorted, tooFew, allocateData, hintAfter}
-use Rattle.rules.proofs.ListLaws.{test-cases, clash, member-append, maybe-some, maybe-cases, if-cases, and-left, and-right, and-intro, range-add, Each, each-any, each-weaken, each-map}
-use Rattle.rules.proofs.CountLaws.{same-test, filter-each, count-filter, flatMap-append, flatMap-each, count-flatMap, count-swap, member-count, member-filter, member-take, member-last, each-member, member-each, member-range-of, each-range, member-range-in, member-range, Once, once-range, once-filter, once-take, count-member, ascending-filter, range-split, last-most, last-none, member-nil, range-front, range-none, map-range}
+use Rattle.rules.specs.Allocation.{allocationGroups, groupOrder, groupStart, groupEnd, highest, cursor, searched, available, found, sorted, foundFirst, tooFew, runIn, firstRun, allocateData, hintAfter}
+use Rattle.rules.proofs.ListLaws.{test-cases, clash, member-append, maybe-some, maybe-cases, if-cases, and-left, and-right, and-intro, order-cases, length-range, all-range-at, range-add, Each, each-any, each-weaken, each-map, map-each}
+use Rattle.rules.proofs.CountLaws.{same-test, filter-each, count-filter, flatMap-append, flatMap-each, count-flatMap, count-swap, member-count, member-filter, member-take, member-last, each-member, member-each, member-range-of, each-range, member-range-in, member-range, Once, once-range, once-filter, once-take, count-member, count-weaken, ascending-filter, ascending-range, range-split, last-most, last-none, member-nil, range-front, range-none, map-range}
+use Rattle.rules.proofs.RunLaws.{FirstAt, first-none, first-is, first-at, first-no, NoRun, LowestRun, run-right, run-only, run-none, run-no, run-same}
 
 -- ---- groups
 
@@ -43,6 +44,17 @@ each-groupOrder groups hint = each-map (λ i. (hint % groups + i) % groups) (eac
 pub group-begins : (blocks g : ℕ) → g < allocationGroups blocks → groupStart g < blocks
 unfolding allocationGroups groupStart
 group-begins blocks g l = omega arith
+
+-- each group of the store has its turn
+turn-of : (blocks hint g : ℕ) → g < allocationGroups blocks → (i : ℕ) × (i < allocationGroups blocks) × ((hint % allocationGroups blocks + i) % allocationGroups blocks ≡ g)
+turn-of blocks hint g l =
+    let n : ℕ = allocationGroups blocks in
+    let r : ℕ = hint % n in
+    let h : r < n = mod-lt hint (omega arith) in
+    order-cases ((i : ℕ) × (i < n) × ((r + i) % n ≡ g)) g r
+    (λ m. (n - r + g, omega arith, mod-eq-sub-mod {n = r + (n - r + g)} {m = n} (omega arith) ∙ ap (λ (x : ℕ). x % n) (omega arith) ∙ mod-eq-of-lt {n = g} {m = n} l))
+    (λ e. (0, omega arith, ap (λ (x : ℕ). x % n) (omega arith) ∙ mod-eq-of-lt {n = g} {m = n} l))
+    (λ m. (g - r, omega arith, ap (λ (x : ℕ). x % n) (omega arith) ∙ mod-eq-of-lt {n = g} {m = n} l))
 
 -- a block lies in a group of the store
 pub group-of : (blocks b : ℕ) → b < blocks → b / groupBlocks < allocationGroups blocks
@@ -269,40 +281,147 @@ member-first-found b blocks used hint taken n m =
     let h : (available used taken b && ltb b blocks) ≡ true = sym (member-found b blocks used hint taken) ∙ member-take b n (found blocks used hint taken) m in
     (ltb-true b blocks (and-right (available used taken b) (ltb b blocks) h), and-left (available used taken b) (ltb b blocks) h)
 
--- the blocks given are those that are found first
-pub member-allocateData : (b blocks : ℕ) (used : ℕ → Bool) (hint : ℕ) (taken : List ℕ) (n : ℕ) → member b (allocateData blocks used hint taken n) ≡ member b (take n (found blocks used hint taken))
-unfolding allocateData
-member-allocateData b blocks used hint taken n =
+-- those that are found first are given where no run is long enough
+member-foundFirst : (b blocks : ℕ) (used : ℕ → Bool) (hint : ℕ) (taken : List ℕ) (n : ℕ) → member b (foundFirst blocks used hint taken n) ≡ member b (take n (found blocks used hint taken))
+unfolding foundFirst
+member-foundFirst b blocks used hint taken n =
     let bs : List ℕ = take n (found blocks used hint taken) in
     member-sorted b blocks bs
     ∙ same-test (member b bs && ltb b blocks) (member b bs) (λ h. and-left (member b bs) (ltb b blocks) h)
     (λ m. and-intro (member b bs) (ltb b blocks) m (lt-ltb b blocks (member-first-found b blocks used hint taken n m .0)))
 
--- they ascend
-pub ascending-allocateData : (blocks : ℕ) (used : ℕ → Bool) (hint : ℕ) (taken : List ℕ) (n : ℕ) → ascending ltb (allocateData blocks used hint taken n) ≡ true
-unfolding allocateData
-ascending-allocateData blocks used hint taken n = ascending-sorted blocks (take n (found blocks used hint taken))
-
--- none is given twice
-pub allocateData-once : (blocks : ℕ) (used : ℕ → Bool) (hint : ℕ) (taken : List ℕ) (n : ℕ) → Once (allocateData blocks used hint taken n)
-unfolding allocateData sorted
-allocateData-once blocks used hint taken n = once-filter (λ b. member b (take n (found blocks used hint taken))) (range 0 blocks) (once-range 0 blocks)
-
 -- each is a block of the store that was neither used nor taken
-pub each-allocateData : (blocks : ℕ) (used : ℕ → Bool) (hint : ℕ) (taken : List ℕ) (n : ℕ) → Each (λ b. (b < blocks) × (used b ≡ false) × (member b taken ≡ false)) (allocateData blocks used hint taken n)
-each-allocateData blocks used hint taken n =
-    each-member (λ b. (b < blocks) × (used b ≡ false) × (member b taken ≡ false)) (allocateData blocks used hint taken n)
-    (λ b m. let h : (b < blocks) × (available used taken b ≡ true) = member-first-found b blocks used hint taken n (sym (member-allocateData b blocks used hint taken n) ∙ m) in
+each-foundFirst : (blocks : ℕ) (used : ℕ → Bool) (hint : ℕ) (taken : List ℕ) (n : ℕ) → Each (λ b. (b < blocks) × (used b ≡ false) × (member b taken ≡ false)) (foundFirst blocks used hint taken n)
+each-foundFirst blocks used hint taken n =
+    each-member (λ b. (b < blocks) × (used b ≡ false) × (member b taken ≡ false)) (foundFirst blocks used hint taken n)
+    (λ b m. let h : (b < blocks) × (available used taken b ≡ true) = member-first-found b blocks used hint taken n (sym (member-foundFirst b blocks used hint taken n) ∙ m) in
     (h .0, available-free used taken b (h .1), available-untaken used taken b (h .1)))
 
 -- they are as many as wanted, or all that are available where these are fewer
-pub length-allocateData-min : (blocks : ℕ) (used : ℕ → Bool) (hint : ℕ) (taken : List ℕ) (n : ℕ) → length (allocateData blocks used hint taken n) ≡ min n (length (found blocks used hint taken))
-unfolding allocateData
-length-allocateData-min blocks used hint taken n =
+length-foundFirst : (blocks : ℕ) (used : ℕ → Bool) (hint : ℕ) (taken : List ℕ) (n : ℕ) → length (foundFirst blocks used hint taken n) ≡ min n (length (found blocks used hint taken))
+unfolding foundFirst
+length-foundFirst blocks used hint taken n =
     let bs : List ℕ = take n (found blocks used hint taken) in
     length-sorted blocks bs (once-take n (found blocks used hint taken) (found-once blocks used hint taken))
     (each-member (λ b. b < blocks) bs (λ b m. member-first-found b blocks used hint taken n m .0))
     ∙ length-take n (found blocks used hint taken)
+
+-- ---- the first run
+
+-- the group that is searched in its turn
+abbrev pub groupAt : ℕ → ℕ → ℕ → ℕ
+groupAt blocks hint i = (hint % allocationGroups blocks + i) % allocationGroups blocks
+
+-- there is one at each turn
+group-turn : (blocks hint i : ℕ) → i < allocationGroups blocks → groupAt blocks hint i < allocationGroups blocks
+group-turn blocks hint i l = mod-lt (hint % allocationGroups blocks + i) (omega arith)
+
+-- it does not end before it begins
+group-width : (blocks g : ℕ) → g < allocationGroups blocks → groupStart g ≤ groupEnd blocks g
+group-width blocks g l = let b : groupStart g < blocks = group-begins blocks g l in unfold groupEnd in omega arith
+
+-- Document 02's words on it: at its turn, counted from the hint, the group of block b has a run of n free blocks or more, b is the first block of
+-- the lowest of them, and no group whose turn was before has any.
+pub record FirstRun (blocks : ℕ) (free : ℕ → Bool) (n hint b : ℕ) : Type 0 where
+  pub turn : ℕ
+  pub inside : turn < allocationGroups blocks
+  pub earlier : (i : ℕ) → i < turn → NoRun blocks free n (groupAt blocks hint i)
+  pub here : LowestRun blocks free n (groupAt blocks hint turn) b
+
+module _ (blocks : ℕ) (free : ℕ → Bool) (n hint : ℕ) where
+  -- the first run, by turns
+  run-turns : firstRun blocks free n hint ≡ firstGiven (map (λ i. runIn blocks free n (groupAt blocks hint i)) (range 0 (allocationGroups blocks)))
+  unfolding firstRun groupOrder
+  run-turns = ap firstGiven (map-map (runIn blocks free n) (groupAt blocks hint) (range 0 (allocationGroups blocks)))
+
+  -- it is as the words say
+  pub firstRun-right : (b : ℕ) → firstRun blocks free n hint ≡ some b → FirstRun blocks free n hint b
+  firstRun-right b e =
+      let turns : ℕ → Option ℕ = λ i. runIn blocks free n (groupAt blocks hint i) in
+      let s : FirstAt turns 0 (allocationGroups blocks) b = first-at turns 0 (allocationGroups blocks) b (sym run-turns ∙ e) in
+      let l : s .turn < allocationGroups blocks = s .inside in
+      let wide : (i : ℕ) → i < allocationGroups blocks → groupStart (groupAt blocks hint i) ≤ groupEnd blocks (groupAt blocks hint i) = λ i m. group-width blocks (groupAt blocks hint i) (group-turn blocks hint i m) in
+      record {
+        turn = s .turn;
+        inside = l;
+        earlier = λ i m. run-none blocks free n (groupAt blocks hint i) (wide i (omega arith)) (ap turns (sym (zero-add i)) ∙ s .earlier i m);
+        here = run-right blocks free n (groupAt blocks hint (s .turn)) (wide (s .turn) l) b (ap turns (sym (zero-add (s .turn))) ∙ s .here);
+      }
+
+  -- it is the run of the first group that has one
+  pub firstRun-turn : (i b : ℕ) → i < allocationGroups blocks → runIn blocks free n (groupAt blocks hint i) ≡ some b → ((j : ℕ) → j < i → runIn blocks free n (groupAt blocks hint j) ≡ none) → firstRun blocks free n hint ≡ some b
+  firstRun-turn i b l e h =
+      let turns : ℕ → Option ℕ = λ k. runIn blocks free n (groupAt blocks hint k) in
+      run-turns ∙ first-is turns 0 (allocationGroups blocks) i b l (ap turns (zero-add i) ∙ e) (λ j m. ap turns (zero-add j) ∙ h j m)
+
+  -- and none where none has
+  pub firstRun-turns : ((i : ℕ) → i < allocationGroups blocks → runIn blocks free n (groupAt blocks hint i) ≡ none) → firstRun blocks free n hint ≡ none
+  firstRun-turns h =
+      let turns : ℕ → Option ℕ = λ k. runIn blocks free n (groupAt blocks hint k) in
+      run-turns ∙ first-none turns 0 (allocationGroups blocks) (λ i l. ap turns (zero-add i) ∙ h i l)
+
+  -- a group's width, at its turn
+  turn-width : (i : ℕ) → i < allocationGroups blocks → groupStart (groupAt blocks hint i) ≤ groupEnd blocks (groupAt blocks hint i)
+  turn-width i l = group-width blocks (groupAt blocks hint i) (group-turn blocks hint i l)
+
+  -- no other run is as the words say
+  pub firstRun-only : (b : ℕ) → FirstRun blocks free n hint b → firstRun blocks free n hint ≡ some b
+  firstRun-only b r =
+      let l : r .turn < allocationGroups blocks = r .inside in
+      firstRun-turn (r .turn) b l (run-only blocks free n (groupAt blocks hint (r .turn)) (turn-width (r .turn) l) b (r .here))
+      (λ j m. run-no blocks free n (groupAt blocks hint j) (turn-width j (omega arith)) (r .earlier j m))
+
+  -- where there is none no group has one
+  pub firstRun-none : firstRun blocks free n hint ≡ none → (g : ℕ) → g < allocationGroups blocks → NoRun blocks free n g
+  firstRun-none e g l =
+      let turns : ℕ → Option ℕ = λ i. runIn blocks free n (groupAt blocks hint i) in
+      let i : (i : ℕ) × (i < allocationGroups blocks) × (groupAt blocks hint i ≡ g) = turn-of blocks hint g l in
+      run-none blocks free n g (group-width blocks g l)
+      (ap (runIn blocks free n) (sym (i .2)) ∙ ap turns (sym (zero-add (i .0))) ∙ first-no turns 0 (allocationGroups blocks) (sym run-turns ∙ e) (i .0) (i .1))
+
+  -- and where no group has one there is none
+  pub firstRun-no : ((g : ℕ) → g < allocationGroups blocks → NoRun blocks free n g) → firstRun blocks free n hint ≡ none
+  firstRun-no h = firstRun-turns (λ i l. run-no blocks free n (groupAt blocks hint i) (turn-width i l) (h (groupAt blocks hint i) (group-turn blocks hint i l)))
+
+  -- it ends in the store
+  pub firstRun-within : (b : ℕ) → firstRun blocks free n hint ≡ some b → b + n ≤ blocks
+  firstRun-within b e =
+      let r : FirstRun blocks free n hint b = firstRun-right b e in
+      let h : b + n ≤ groupEnd blocks (groupAt blocks hint (r .turn)) = r .here .high in
+      let m : groupEnd blocks (groupAt blocks hint (r .turn)) ≤ blocks = unfold groupEnd in omega arith in
+      omega arith
+
+  -- it is the same where the same blocks of the store are free
+  pub firstRun-same : (also : ℕ → Bool) → ((b : ℕ) → b < blocks → free b ≡ also b) → firstRun blocks free n hint ≡ firstRun blocks also n hint
+  unfolding firstRun
+  firstRun-same also h =
+      ap firstGiven
+      (map-each (runIn blocks free n) (runIn blocks also n)
+      (each-weaken (λ g l. run-same blocks free n g (group-width blocks g l) also h) (each-groupOrder (allocationGroups blocks) hint)))
+
+  -- its blocks are free blocks of the store
+  run-free : (b : ℕ) → firstRun blocks free n hint ≡ some b → Each (λ x. (x < blocks) × (free x ≡ true)) (range b n)
+  run-free b e =
+      let h : b + n ≤ blocks = firstRun-within b e in
+      each-weaken {P = λ x. (b ≤ x) × (x < b + n)}
+      (λ x q. (omega arith, ap free (omega arith) ∙ all-range-at free b n (firstRun-right b e .here .run) (x - b) (omega arith))) (each-range b n)
+
+-- ---- the blocks given
+
+-- each is a block of the store that was neither used nor taken
+pub each-allocateData : (blocks : ℕ) (used : ℕ → Bool) (hint : ℕ) (taken : List ℕ) (n : ℕ) → Each (λ b. (b < blocks) × (used b ≡ false) × (member b taken ≡ false)) (allocateData blocks used hint taken n)
+unfolding allocateData
+each-allocateData blocks used hint taken n =
+    maybe-cases (Each (λ b. (b < blocks) × (used b ≡ false) × (member b taken ≡ false))) (foundFirst blocks used hint taken n) (λ b. range b n) (firstRun blocks (available used taken) n hint)
+    (λ e. each-foundFirst blocks used hint taken n)
+    (λ b e. each-weaken (λ x h. (h .0, available-free used taken x (h .1), available-untaken used taken x (h .1))) (run-free blocks (available used taken) n hint b e))
+
+-- they ascend
+pub ascending-allocateData : (blocks : ℕ) (used : ℕ → Bool) (hint : ℕ) (taken : List ℕ) (n : ℕ) → ascending ltb (allocateData blocks used hint taken n) ≡ true
+unfolding allocateData
+ascending-allocateData blocks used hint taken n =
+    maybe-cases (λ bs. ascending ltb bs ≡ true) (foundFirst blocks used hint taken n) (λ b. range b n) (firstRun blocks (available used taken) n hint)
+    (λ e. unfold foundFirst in ascending-sorted blocks (take n (found blocks used hint taken))) (λ b e. ascending-range b n)
 
 -- a unit is refused where fewer blocks are found than it wants
 pub tooFew-found : (blocks : ℕ) (used : ℕ → Bool) (hint : ℕ) (taken : List ℕ) (n : ℕ) → tooFew blocks used taken n ≡ ltb (length (found blocks used hint taken)) n
@@ -311,19 +430,39 @@ tooFew-found blocks used hint taken n = ap (λ (k : ℕ). ltb k n) (sym (length-
 
 -- a unit that is not refused is given exactly as many as it wants
 pub length-allocateData : (blocks : ℕ) (used : ℕ → Bool) (hint : ℕ) (taken : List ℕ) (n : ℕ) → tooFew blocks used taken n ≡ false → length (allocateData blocks used hint taken n) ≡ n
+unfolding allocateData
 length-allocateData blocks used hint taken n h =
     let l : n ≤ length (found blocks used hint taken) = ltb-false (length (found blocks used hint taken)) n (sym (tooFew-found blocks used hint taken n) ∙ h) in
-    length-allocateData-min blocks used hint taken n ∙ omega arith
+    maybe-cases (λ bs. length bs ≡ n) (foundFirst blocks used hint taken n) (λ b. range b n) (firstRun blocks (available used taken) n hint)
+    (λ e. length-foundFirst blocks used hint taken n ∙ omega arith) (λ b e. length-range b n)
+
+-- a unit for which there is a run is not refused: its blocks are available
+run-enough : (blocks : ℕ) (used : ℕ → Bool) (hint : ℕ) (taken : List ℕ) (n b : ℕ) → firstRun blocks (available used taken) n hint ≡ some b → tooFew blocks used taken n ≡ false
+unfolding tooFew count
+run-enough blocks used hint taken n b e =
+    let h : Each (λ x. (x < blocks) × (available used taken x ≡ true)) (range b n) = run-free blocks (available used taken) n hint b e in
+    let c : count (λ x. member x (range b n)) (range 0 blocks) ≡ length (range b n) = count-member blocks (range b n) (once-range b n) (each-weaken (λ x q. q .0) h) in
+    let d : length (range b n) ≡ n = length-range b n in
+    let m : count (λ x. member x (range b n)) (range 0 blocks) ≤ count (available used taken) (range 0 blocks) =
+    count-weaken (λ x. member x (range b n)) (available used taken) (λ x q. member-each (λ x. (x < blocks) × (available used taken x ≡ true)) h x q .1) (range 0 blocks) in
+    le-ltb (count (available used taken) (range 0 blocks)) n (omega arith)
 
 -- a unit is refused exactly where it would be given fewer than it wants
 pub tooFew-allocateData : (blocks : ℕ) (used : ℕ → Bool) (hint : ℕ) (taken : List ℕ) (n : ℕ) → tooFew blocks used taken n ≡ ltb (length (allocateData blocks used hint taken n)) n
+unfolding allocateData
 tooFew-allocateData blocks used hint taken n =
-    let k : ℕ = length (found blocks used hint taken) in
-    let e : length (allocateData blocks used hint taken n) ≡ min n (length (found blocks used hint taken)) = length-allocateData-min blocks used hint taken n in
-    tooFew-found blocks used hint taken n
-    ∙ same-test (ltb k n) (ltb (length (allocateData blocks used hint taken n)) n)
-    (λ t. let l : length (found blocks used hint taken) < n = ltb-true k n t in lt-ltb (length (allocateData blocks used hint taken n)) n (omega arith))
-    (λ t. let l : length (allocateData blocks used hint taken n) < n = ltb-true (length (allocateData blocks used hint taken n)) n t in lt-ltb k n (omega arith))
+    maybe-cases (λ bs. tooFew blocks used taken n ≡ ltb (length bs) n) (foundFirst blocks used hint taken n) (λ b. range b n) (firstRun blocks (available used taken) n hint)
+    (λ e. tooFew-found blocks used hint taken n ∙ fewer)
+    (λ b e. let d : length (range b n) ≡ n = length-range b n in run-enough blocks used hint taken n b e ∙ sym (le-ltb (length (range b n)) n (omega arith)))
+  where
+    fewer : ltb (length (found blocks used hint taken)) n ≡ ltb (length (foundFirst blocks used hint taken n)) n
+    fewer =
+        let k : ℕ = length (found blocks used hint taken) in
+        let j : ℕ = length (foundFirst blocks used hint taken n) in
+        let e : length (foundFirst blocks used hint taken n) ≡ min n (length (found blocks used hint taken)) = length-foundFirst blocks used hint taken n in
+        same-test (ltb k n) (ltb j n)
+        (λ t. let l : length (found blocks used hint taken) < n = ltb-true k n t in lt-ltb j n (omega arith))
+        (λ t. let l : length (foundFirst blocks used hint taken n) < n = ltb-true j n t in lt-ltb k n (omega arith))
 
 -- ---- the hint
 

@@ -339,6 +339,13 @@ ascending-behind f first (suc n) x l =
     (ascending-cons x first (filter f (range (suc first) n)) l (ascending-behind f (suc first) n first (omega arith))))
     (λ p. rw (filter-no f first (range (suc first) n) p) (ascending-behind f (suc first) n x (omega arith)))
 
+-- a range ascends
+pub ascending-range : (first n : ℕ) → ascending ltb (range first n) ≡ true
+unfolding range neighbours
+ascending-range first zero = refl
+ascending-range first (suc zero) = refl
+ascending-range first (suc (suc n)) = and-intro (ltb first (suc first)) (ascending ltb (range (suc first) (suc n))) (lt-ltb first (suc first) (omega arith)) (ascending-range (suc first) (suc n))
+
 -- what is kept of a range ascends
 pub ascending-filter : (f : ℕ → Bool) (first n : ℕ) → ascending ltb (filter f (range first n)) ≡ true
 unfolding range

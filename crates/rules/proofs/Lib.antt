@@ -31,6 +31,7 @@ pub mod FillLaws
 pub mod UnitListLaws
 pub mod CountLaws
 pub mod StretchLaws
+pub mod RunLaws
 pub mod AllocationLaws
 pub mod KeptLaws
 pub mod BytesKept

@@ -1,4 +1,4 @@
--- Document 01, "New blocks": `allocate_data`.
+-- Document 01, "New blocks", and document 02, W-208, "One run where one exists": `allocate_data`.
 -- Assumes nothing.
 use mathlib.Core.List.{List, _++_, map, flatMap, getLast?}
 use mathlib.Core.Bool.{Bool, not, _&&_}
@@ -6,7 +6,7 @@ use mathlib.Core.Option.{Option}
 use Prim.Native.Nat.{ℕ, suc, _+_, _-_, _*_, _/_, _%_, min}
 use lib.Dec.{eqb, ltb}
 use lib.ListN.{length, take}
-use Rattle.rules.specs.Lists.{if_then_else_, maybe, range, filter, member, begun}
+use Rattle.rules.specs.Lists.{if_then_else_, maybe, range, all, filter, find, firstGiven, member, begun}
 use Rattle.rules.specs.Sizes.{groupBlocks}
 
 -- the allocation groups of a store
@@ -56,9 +56,25 @@ sorted blocks bs = filter (λ b. member b bs) (range 0 blocks)
 unfoldable pub tooFew : ℕ → (ℕ → Bool) → List ℕ → ℕ → Bool
 tooFew blocks used taken n = ltb (length (filter (available used taken) (range 0 blocks))) n
 
--- `allocate_data`: the n blocks that are found first, ascending
+-- the n blocks that are found first, ascending: document 01's rule, which W-208 calls "the present rule"
+unfoldable pub foundFirst : ℕ → (ℕ → Bool) → ℕ → List ℕ → ℕ → List ℕ
+foundFirst blocks used hint taken n = sorted blocks (take n (found blocks used hint taken))
+
+-- W-208. The store's blocks, which of them are free and not taken, and how many are wanted
+module _ (blocks : ℕ) (free : ℕ → Bool) (n : ℕ) where
+  -- the lowest n free blocks side by side in a group, told by the first of them: where its "lowest such run" begins, of those "at least as long as wanted".
+  -- "A run does not cross a group's end": the last place at which n blocks begin is n before it
+  unfoldable pub runIn : ℕ → Option ℕ
+  runIn group = find (λ b. all free (range b n)) (range (groupStart group) (suc (groupEnd blocks group - groupStart group) - n))
+
+  -- "goes through the groups from the hint, cyclic, and in the first group that has a run [..]"
+  unfoldable pub firstRun : ℕ → Option ℕ
+  firstRun hint = firstGiven (map runIn (groupOrder (allocationGroups blocks) hint))
+
+-- `allocate_data`: "it takes the first blocks of the lowest such run", "before the present rule"
 unfoldable pub allocateData : ℕ → (ℕ → Bool) → ℕ → List ℕ → ℕ → List ℕ
-allocateData blocks used hint taken n = sorted blocks (take n (found blocks used hint taken))
+allocateData blocks used hint taken n =
+    maybe (foundFirst blocks used hint taken n) (λ b. range b n) (firstRun blocks (available used taken) n hint)
 
 -- "The hint becomes the group of the last one so assigned, if any."
 unfoldable pub hintAfter : ℕ → List ℕ → ℕ

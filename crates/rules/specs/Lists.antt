@@ -51,6 +51,12 @@ count f xs = length (filter f xs)
 unfoldable pub find : {A : Type 0} → (A → Bool) → List A → Option A
 find f xs = head? (filter f xs)
 
+-- the first of those that are there
+unfoldable pub firstGiven : {A : Type 0} → List (Option A) → Option A
+firstGiven [] = none
+firstGiven (none ∷ xs) = firstGiven xs
+firstGiven (some x ∷ xs) = some x
+
 -- the number stands in the list
 unfoldable pub member : ℕ → List ℕ → Bool
 member n xs = any (eqb n) xs

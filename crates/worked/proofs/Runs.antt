@@ -120,21 +120,22 @@ scattered = extent 0 1 1 ∷ extent 1 3 1 ∷ extent 2 5 2 ∷ extent 4 8 1 ∷ 
 pub straight : List Extent
 straight = extent 0 1 5 ∷ []
 
--- where the old unit was checked, two bytes across the third and fourth block leave four runs: the two move to blocks 2 and 4
+-- where the old unit was checked, two bytes across the third and fourth block leave four runs: the two move to blocks 9 and 10, the lowest
+-- two free ones side by side
 pub four-runs : (uuid image old : List ℕ) (crc : ℕ) → inspectUnit (fiveBlocks uuid image crc scattered) 7 20480 0 ≡ checked old
     → told scattered (planned mostRuns (fiveBlocks uuid image crc scattered) (into 12287 2))
     ≡ (
       0,
       (some 1 ∷ some 3 ∷ none ∷ none ∷ some 8 ∷ []) ∷ [],
-      2 ∷ 4 ∷ [],
+      9 ∷ 10 ∷ [],
       5 ∷ 6 ∷ [],
-      extent 0 1 1 ∷ extent 1 3 1 ∷ extent 2 2 1 ∷ extent 3 4 1 ∷ extent 4 8 1 ∷ [],
+      extent 0 1 1 ∷ extent 1 3 1 ∷ extent 2 9 2 ∷ extent 4 8 1 ∷ [],
       some 5,
     )
 unfolding computed into told planned fromRead fiveOf fiveBlocks start scattered
 four-runs uuid image old crc h = ap (λ i. told scattered (fromRead mostRuns (fiveBlocks uuid image crc scattered) (into 12287 2) i)) h
 
--- a byte into the third alone leaves five: all five move, to the first free blocks
+-- a byte into the third alone leaves five: all five move, to the first free blocks, as no five of them lie side by side
 pub five-runs : (uuid image old : List ℕ) (crc : ℕ) → inspectUnit (fiveBlocks uuid image crc scattered) 7 20480 0 ≡ checked old
     → told scattered (planned mostRuns (fiveBlocks uuid image crc scattered) (into 8192 1))
     ≡ (
