@@ -8,6 +8,9 @@
 //! same indentation (the source is formatted by rustfmt), and a piece that is
 //! not found stops the build.
 //!
+//! `allocate_data` is cut out twice: as published, under a name of its own, and
+//! with one statement put before its first, which asks for one run of blocks.
+//!
 //! The source is sought at `CARRYFS_SRC`, else beside the checkout. Where it
 //! is absent the crate is built without the cfg `carryfs` and answers nothing.
 
@@ -15,6 +18,13 @@ use std::path::{Path, PathBuf};
 use std::{env, fs};
 
 const BESIDE_THE_CHECKOUT: &str = "../../../shared/docs/src";
+
+/// Of the published `allocate_data`.
+const FIRST_STATEMENT: &str = "let groups = self.forest.base.blocks.div_ceil(GROUP);";
+/// What is put before it; `src/allocation.rs` has `allocate_run`.
+const ONE_RUN: &str = "if let Some(run) = self.allocate_run(count, hint)? {
+            return Ok(vec![run]);
+        }";
 
 fn main() {
     println!("cargo::rustc-check-cfg=cfg(carryfs)");
@@ -45,7 +55,8 @@ fn main() {
     put("file_mod.rs", file_mod(&file.path));
     // Document 02, W-207: "The oracle for the archive call is file.rs with
     // `MAX_UNIT_RUNS` set to 2."
-    let archive = file.replaced(
+    let archive = replaced(
+        &file.text,
         "const MAX_UNIT_RUNS: usize = 4;",
         "const MAX_UNIT_RUNS: usize = 2;",
     );
@@ -86,13 +97,28 @@ fn main() {
     );
 
     let allocation = published("src/allocation.rs");
+    let allocate_data = allocation.cut("pub(crate) fn allocate_data(");
+    // Document 02, W-208: "Block numbers are matched from then on with an
+    // `allocate_data` that the harness changes alike". What follows the statement
+    // is the published text.
+    let one_run_first = replaced(
+        &allocate_data,
+        FIRST_STATEMENT,
+        &format!("{ONE_RUN}\n        {FIRST_STATEMENT}"),
+    );
+    let as_published = replaced(
+        &allocate_data,
+        "fn allocate_data(",
+        "fn allocate_data_as_published(",
+    );
     put(
         "allocation.rs",
         [
             allocation.cut("pub(crate) const GROUP:"),
             allocation.cut("struct Range {"),
             "impl<D: BlockDevice> Transaction<'_, D> {\n".into(),
-            allocation.cut("pub(crate) fn allocate_data("),
+            one_run_first,
+            as_published,
             allocation.cut("pub(crate) fn write_data("),
             allocation.cut("pub(crate) fn retire_data("),
             "}\n".into(),
@@ -124,6 +150,13 @@ fn main() {
     );
 }
 
+/// The published text with `old`, which stands there once, replaced.
+fn replaced(text: &str, old: &str, new: &str) -> String {
+    let times = text.matches(old).count();
+    assert!(times == 1, "`{old}` stands {times} times, not once");
+    text.replace(old, new)
+}
+
 /// One published file.
 struct Published {
     path: PathBuf,
@@ -136,14 +169,6 @@ impl Published {
         let text =
             fs::read_to_string(&path).unwrap_or_else(|error| panic!("{}: {error}", path.display()));
         Self { path, text }
-    }
-
-    /// The text with `old`, which stands there once, replaced.
-    fn replaced(&self, old: &str, new: &str) -> String {
-        let times = self.text.matches(old).count();
-        let path = self.path.display();
-        assert!(times == 1, "{path}: `{old}` stands {times} times, not once");
-        self.text.replace(old, new)
     }
 
     /// The item whose first line starts with `head`, with the comments and

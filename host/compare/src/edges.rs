@@ -17,6 +17,7 @@ use crate::lists::read_many;
 use crate::many::many;
 use crate::mixed::exchanged;
 use crate::ranges::data_stretches;
+use crate::runs;
 use crate::smallest::smallest;
 use crate::stretches::stretches;
 use crate::writes::{batch_of, write_batch};
@@ -97,6 +98,7 @@ pub fn edges() -> Vec<Edge> {
     // On the smallest stores, so that they come before the others at little cost.
     all.extend(stretches());
     all.extend(telling());
+    all.extend(runs::telling());
     ends(&mut all);
     times(&mut all);
     transfers(&mut all);

@@ -9,15 +9,17 @@ use std::panic::{AssertUnwindSafe, catch_unwind};
 use std::sync::{Arc, LazyLock};
 use std::time::Duration;
 
-use model::{Answer, Call, Store, passes_refusals_1_and_2};
+use model::{Answer, Call, Store, Volume, passes_refusals_1_and_2};
 
 use crate::alone::{alone, bad_lists, calls, sounds};
 use crate::archive::archives;
 use crate::broken::broken_stores;
 use crate::edges::{Edge, edges, large, pairs, wide};
+use crate::fragments;
 use crate::guard::{Guarded, Side};
 use crate::library::Library;
 use crate::run::same_images;
+use crate::runs::{self, Cases};
 use crate::shrink::{describe, minimise};
 use crate::walk::{Event, Walk};
 
@@ -29,6 +31,9 @@ pub const HISTORY_CALLS: u64 = 25_000;
 const EARLY_CALLS: u64 = 2_000;
 /// Calls of histories between guard pages, on each side.
 const GUARDED_CALLS: u64 = 1_900;
+
+/// Random calls on three allocation groups.
+const WIDE_CALLS: usize = 300;
 
 /// How long a failing case is made smaller.
 const SHRINKING: Duration = Duration::from_secs(10);
@@ -113,6 +118,7 @@ impl<'a> Gate<'a> {
         self.edges()?;
         self.alone()?;
         self.archives()?;
+        self.runs()?;
         self.wide()?;
         self.histories(SEED, 0, EARLY_CALLS)?;
         self.pairs()?;
@@ -125,6 +131,7 @@ impl<'a> Gate<'a> {
         self.edges()?;
         self.alone()?;
         self.archives()?;
+        self.runs()?;
         self.histories(SEED + 1, 0, GUARDED_CALLS)
     }
 
@@ -222,18 +229,45 @@ impl<'a> Gate<'a> {
         self.single(&pairs)
     }
 
-    /// Calls on one store of three allocation groups, whose image goes on.
+    /// New blocks in one run where one exists, in one allocation group.
+    pub fn runs(&mut self) -> Outcome {
+        static RUNS: LazyLock<Cases> = LazyLock::new(runs::small);
+        let steps = RUNS.cases.iter();
+        let steps = steps.map(|case| (case.name, &case.volume, &case.call));
+        self.steps(RUNS.store.clone(), steps)
+    }
+
+    /// Calls on stores of three allocation groups.
     pub fn wide(&mut self) -> Outcome {
-        let (mut document, steps) = wide();
-        let (mut lent, _) = wide();
-        for (volume, call) in steps {
+        let (store, steps) = wide();
+        let steps = steps.iter();
+        let steps = steps.map(|(volume, call)| ("three allocation groups", volume, call));
+        self.steps(store, steps)?;
+        let Cases { store, cases, .. } = runs::wide();
+        let steps = cases.iter();
+        let steps = steps.map(|case| (case.name, &case.volume, &case.call));
+        self.steps(store, steps)?;
+        let (store, steps) = fragments::wide(SEED, WIDE_CALLS);
+        let steps: Vec<(Volume, Call)> = steps.collect();
+        let steps = steps.iter();
+        let steps = steps.map(|(volume, call)| ("short runs in three groups", volume, call));
+        self.steps(store, steps)
+    }
+
+    /// Calls, each on its volume, on one store whose image goes on.
+    fn steps<'b>(
+        &mut self,
+        mut document: Store,
+        steps: impl Iterator<Item = (&'b str, &'b Volume, &'b Call)>,
+    ) -> Outcome {
+        let mut lent = document.clone();
+        for (name, volume, call) in steps {
             volume.encode(&mut document);
             lent.copy_records_from(&document);
-            self.step("three allocation groups", &mut document, &mut lent, &call)?;
+            self.step(name, &mut document, &mut lent, call)?;
         }
-        same_image(&document, &lent).map_err(|reason| {
-            self.parted("three allocation groups", reason, &document, &Call::Fill)
-        })
+        same_image(&document, &lent)
+            .map_err(|reason| self.parted("after all steps", reason, &document, &Call::Fill))
     }
 
     /// One call on two stores that go on, the model's and the library's.

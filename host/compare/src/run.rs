@@ -8,6 +8,7 @@ use oracle::{OracleAnswer, Outcome};
 
 use crate::differences::Difference;
 use crate::generate::Profile;
+use crate::given::Given;
 use crate::lists::by_single_reads;
 use crate::ranges::by_reads_of_units;
 use crate::walk::{Event, Walk};
@@ -44,6 +45,8 @@ pub struct Tally {
     /// Compared calls by name and the document's number.
     pub answers: BTreeMap<(&'static str, u32), u64>,
     pub listed: BTreeMap<Difference, u64>,
+    /// The units of compared calls, by the rule that gave them their blocks.
+    pub given: Given,
     pub damages: BTreeMap<&'static str, u64>,
     pub profiles: BTreeMap<Profile, u64>,
 }
@@ -220,7 +223,7 @@ pub fn watched_history(
         };
         tally.calls += 1;
         watch(&walk.store, &call);
-        let used_before = walk.store.used.clone();
+        let (head_before, used_before) = (walk.store.head.clone(), walk.store.used.clone());
         let answer = model::run(&mut walk.store, &call);
         // A place that a damaged store shares may be kept and retired at
         // once; every later call is then refused by 2, which the Rust does
@@ -255,6 +258,10 @@ pub fn watched_history(
         let same_store =
             document.records_equal(&rust) && same_images(document, &rust, &used_before);
         match verdict(document, &compared, same_store) {
+            Verdict::Agree if answer.number == 0 && oracle::AVAILABLE => {
+                let given = &mut tally.given;
+                given.count(&call, &head_before, &used_before, document);
+            }
             Verdict::Agree => {}
             Verdict::Listed(difference) => {
                 *tally.listed.entry(difference).or_default() += 1;
@@ -343,6 +350,7 @@ impl Tally {
             }
             let _ = writeln!(text, "{line}");
         }
+        text += &self.given.report();
         let _ = writeln!(text, "damages:");
         for (name, count) in &self.damages {
             let _ = writeln!(text, "  {name}: {count}");

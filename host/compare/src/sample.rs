@@ -9,6 +9,7 @@ use crate::created;
 use crate::generate::{History, Profile};
 use crate::recorded::{Case, Source, Writer};
 use crate::run::{Verdict, judge};
+use crate::runs;
 use crate::smallest::{RECORDED_FIRST, smallest};
 use crate::walk::{Event, Walk};
 
@@ -39,7 +40,7 @@ pub fn answers(seed: u64) -> (Vec<u8>, usize) {
     for smallest in later {
         writer.case(&told(&smallest.store, &smallest.call));
     }
-    for edge in created::recorded() {
+    for edge in created::recorded().into_iter().chain(runs::recorded()) {
         writer.case(&told(&edge.store, &edge.call));
     }
     let calls = writer.calls;

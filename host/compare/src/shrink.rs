@@ -247,7 +247,11 @@ fn of_volume(change: impl Fn(&mut Volume) + 'static) -> Simpler {
 /// Ways to make a store simpler, the coarse ones first.
 fn simpler_stores(store: &Store) -> impl Iterator<Item = Simpler> {
     let volume = Volume::decode(store);
-    let mut ways: Vec<Simpler> = vec![Box::new(without_last_free_blocks)];
+    let mut ways: Vec<Simpler> = vec![
+        Box::new(|store| without_last_free_blocks(store, |_| 0)),
+        Box::new(|store| without_last_free_blocks(store, |free| free / 2)),
+        Box::new(|store| without_last_free_blocks(store, |free| free.saturating_sub(1))),
+    ];
     for at in 0..volume.cards.len() {
         ways.push(of_volume(move |v| {
             let card = v.cards.remove(at);
@@ -309,12 +313,14 @@ fn half_of_the_slots(group: &mut Group, first: bool) {
     }
 }
 
-fn without_last_free_blocks(store: &Store) -> Store {
+/// Without the free blocks at the end, or with so many of them left.
+fn without_last_free_blocks(store: &Store, left: impl Fn(usize) -> usize) -> Store {
     let mut volume = Volume::decode(store);
-    while volume.used.len() > 1 && volume.used.last() == Some(&false) {
-        volume.used.pop();
-        volume.retired.pop();
-    }
+    let used = volume.used.iter().rposition(|used| *used);
+    let behind = used.map_or(0, |last| last + 1);
+    let blocks = (behind + left(volume.used.len() - behind)).max(1);
+    volume.used.truncate(blocks);
+    volume.retired.truncate(blocks);
     let mut simpler = Store::blank(
         volume.blocks(),
         store.card_places(),

@@ -5,6 +5,7 @@ use model::{Answer, Call, Store, Time, passes_refusals_1_and_2};
 use random::Rng;
 
 use crate::damage::{damage, split_all};
+use crate::fragments::Fragments;
 use crate::generate::{History, Step, crowd};
 use crate::lists::Lists;
 use crate::mixed::Mixed;
@@ -19,6 +20,7 @@ pub struct Walk {
     /// Events and calls so far.
     pub step: usize,
     lists: Option<(Ranges, Lists, Batches, Mixed)>,
+    fragments: Option<Fragments>,
     rough: Option<Rough>,
 }
 
@@ -101,14 +103,15 @@ impl Walk {
             history,
             step: 0,
             lists: None,
+            fragments: None,
             rough: None,
         }
     }
 
     /// History `number` of `seed` with lists of stretches and many reads in one
     /// call in between, which leave its own calls as they are; and in some
-    /// histories with batches of writes, and in some with archive writes, after
-    /// which its calls are others.
+    /// histories with batches of writes, in some with archive writes, and in some
+    /// with free blocks brought into short runs, after which its calls are others.
     pub fn with_lists(seed: u64, number: u64) -> Self {
         let mut walk = Self::new(History::new(seed, number));
         walk.lists = Some((
@@ -117,6 +120,7 @@ impl Walk {
             Batches::new(seed, number),
             Mixed::new(seed, number),
         ));
+        walk.fragments = Some(Fragments::new(seed, number));
         walk
     }
 
@@ -135,6 +139,10 @@ impl Walk {
     /// runs a call on the store.
     pub fn event(&mut self) -> Option<Event> {
         if let Some(change) = self.roughen() {
+            self.step += 1;
+            return Some(Event::Changed(change));
+        }
+        if let Some(change) = self.fragment() {
             self.step += 1;
             return Some(Event::Changed(change));
         }
@@ -217,6 +225,21 @@ impl Walk {
             return Some(Change::whole(Some("bytes or lengths, refused by 1 or 2")));
         }
         Some(Change::whole(Some("bytes or lengths")))
+    }
+
+    /// Bring the free blocks into short runs, where the walk has that, on a store
+    /// that passes refusals 1 and 2.
+    fn fragment(&mut self) -> Option<Change> {
+        let fragments = self.fragments.as_mut()?;
+        let rough = self.rough.as_ref();
+        let changed = rough.is_some_and(|rough| rough.undo.is_some());
+        if changed || !fragments.wants(&self.history) || !passes_refusals_1_and_2(&self.store) {
+            return None;
+        }
+        fragments.change(&mut self.store);
+        let mut change = Change::of_records();
+        change.name = Some("free blocks in short runs");
+        Some(change)
     }
 
     /// One of the calls that a history seldom makes, on a store that refusal 1

@@ -3,6 +3,7 @@
 //! its request.
 
 use std::collections::BTreeSet;
+use std::ops::Range;
 
 use crate::call::{Answer, Call, Time};
 use crate::crc32c::unit_checksum;
@@ -601,7 +602,7 @@ struct Written<'a> {
 impl Written<'_> {
     /// The part that falls into the unit, relative to the unit's start and
     /// to the written bytes.
-    fn in_unit(&self, unit: u64) -> Option<(std::ops::Range<usize>, &[u8])> {
+    fn in_unit(&self, unit: u64) -> Option<(Range<usize>, &[u8])> {
         let start = unit * UNIT_BYTES;
         let from = self.offset.max(start);
         let to = (self.offset + self.bytes.len() as u64).min(start + UNIT_BYTES);
@@ -659,15 +660,68 @@ fn runs(kept: &[Option<u64>], number: usize) -> usize {
     }
 }
 
-/// "groups from the hint modulo their number, cyclic; in each, from after the
-/// highest block taken by this call in that group (from its start if none, or
-/// if that was its last), then around." Ascending, as they are assigned.
-fn allocate(volume: &Volume, carried: &Carried, wanted: usize) -> Result<Vec<u64>, Refusal> {
+/// The blocks of each allocation group, "groups from the hint modulo their
+/// number, cyclic". The last group may be shorter.
+fn groups_from_the_hint(volume: &Volume, carried: &Carried) -> Vec<Range<u64>> {
     let groups = volume.blocks().div_ceil(GROUP_BLOCKS);
+    (0..groups)
+        .map(|n| (carried.hint + n) % groups)
+        .map(|group| {
+            let first = group * GROUP_BLOCKS;
+            first..(first + GROUP_BLOCKS).min(volume.blocks())
+        })
+        .collect()
+}
+
+/// "A free block is one whose used bit is clear", here also "none taken by
+/// this call".
+fn is_free(volume: &Volume, carried: &Carried, block: u64) -> bool {
+    !volume.used[block as usize] && !carried.taken.contains(&block)
+}
+
+/// The runs of free blocks of a group, ascending. "A run does not cross a
+/// group's end."
+fn free_runs(volume: &Volume, carried: &Carried, group: &Range<u64>) -> Vec<Range<u64>> {
+    let mut runs: Vec<Range<u64>> = Vec::new();
+    for block in group.clone() {
+        if !is_free(volume, carried, block) {
+            continue;
+        }
+        match runs.last_mut() {
+            Some(run) if run.end == block => run.end += 1,
+            _ => runs.push(block..block + 1),
+        }
+    }
+    runs
+}
+
+/// W-208: "Before the present rule, allocation goes through the groups from the
+/// hint, cyclic, and in the first group that has a run of free blocks, none
+/// taken by this call, at least as long as wanted it takes the first blocks of
+/// the lowest such run."
+fn allocate_run(volume: &Volume, carried: &Carried, wanted: usize) -> Option<Vec<u64>> {
+    let wanted = wanted as u64;
+    for group in groups_from_the_hint(volume, carried) {
+        let runs = free_runs(volume, carried, &group);
+        let lowest = runs.iter().find(|run| run.end - run.start >= wanted);
+        if let Some(run) = lowest {
+            return Some((run.start..run.start + wanted).collect());
+        }
+    }
+    None
+}
+
+/// The blocks for a unit, ascending, as they are assigned: one run where one
+/// exists, else by the present rule: "in each, from after the highest block
+/// taken by this call in that group (from its start if none, or if that was its
+/// last), then around."
+fn allocate(volume: &Volume, carried: &Carried, wanted: usize) -> Result<Vec<u64>, Refusal> {
+    if let Some(run) = allocate_run(volume, carried, wanted) {
+        return Ok(run);
+    }
     let mut found = Vec::new();
-    for group in (0..groups).map(|n| (carried.hint + n) % groups) {
-        let first = group * GROUP_BLOCKS;
-        let end = (first + GROUP_BLOCKS).min(volume.blocks());
+    for group in groups_from_the_hint(volume, carried) {
+        let Range { start: first, end } = group;
         let highest = carried.taken.range(first..end).next_back();
         let from = match highest {
             Some(&block) if block + 1 < end => block + 1,
@@ -677,14 +731,13 @@ fn allocate(volume: &Volume, carried: &Carried, wanted: usize) -> Result<Vec<u64
             if found.len() == wanted {
                 break;
             }
-            // "A free block is one whose used bit is clear."
-            if !volume.used[block as usize] && !carried.taken.contains(&block) {
+            if is_free(volume, carried, block) {
                 found.push(block);
             }
         }
     }
     // "Fewer blocks have a clear used bit and are untaken by this call's
-    // earlier units than the unit wants."
+    // earlier units than the unit wants." W-208: "Refusal 13 keeps its case."
     refuse_if(found.len() < wanted, 13)?;
     found.sort_unstable();
     Ok(found)

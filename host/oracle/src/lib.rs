@@ -5,7 +5,8 @@
 //! |---|---|---|
 //! | `volume::file` | the published file, by `#[path]` | `volume/mod.rs` |
 //! | `archive::file` | the published file with `MAX_UNIT_RUNS` set to 2, made by `build.rs`, for the archive call | `volume/mod.rs` |
-//! | `allocate_data`, `write_data`, `retire_data` | their published text, cut out by `build.rs` | `allocation.rs` |
+//! | `write_data`, `retire_data` | their published text, cut out by `build.rs` | `allocation.rs` |
+//! | `allocate_data` | its published text behind one statement for W-208's run; as published it is `allocate_data_as_published` | `allocation.rs` |
 //! | `Transaction` | one call a transaction, no tree pages | `allocation.rs` |
 //! | `Forest`, `Edge` | an ordered map; `read_data`, `write_data` are the published text | `tree.rs` |
 //! | group functions, `Page` | their published text | `format.rs` |

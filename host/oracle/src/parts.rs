@@ -11,8 +11,30 @@ mod published {
     use crate::allocation;
     use crate::format;
 
+    /// With one run sought first, as W-208 changes it.
     pub fn allocate(used: &[u8], blocks: u64, hint: u64, wanted: &[u64]) -> Vec<(Vec<u64>, u64)> {
-        allocation::allocate(used, blocks, hint, wanted)
+        allocation::allocate(used, blocks, hint, wanted, false)
+    }
+
+    pub fn allocate_as_published(
+        used: &[u8],
+        blocks: u64,
+        hint: u64,
+        wanted: &[u64],
+    ) -> Vec<(Vec<u64>, u64)> {
+        allocation::allocate(used, blocks, hint, wanted, true)
+    }
+
+    /// As published, for one unit of a call that has taken these blocks; none where
+    /// too few are left.
+    pub fn published_after(
+        used: &[u8],
+        blocks: u64,
+        hint: u64,
+        taken: &[u64],
+        wanted: u64,
+    ) -> Option<Vec<u64>> {
+        allocation::published_after(used, blocks, hint, taken, wanted)
     }
 
     pub fn compact_length(group: &GroupBytes) -> usize {
@@ -36,6 +58,14 @@ mod published {
         unreachable!()
     }
 
+    pub fn allocate_as_published(_: &[u8], _: u64, _: u64, _: &[u64]) -> Vec<(Vec<u64>, u64)> {
+        unreachable!()
+    }
+
+    pub fn published_after(_: &[u8], _: u64, _: u64, _: &[u64], _: u64) -> Option<Vec<u64>> {
+        unreachable!()
+    }
+
     pub fn compact_length(_: &GroupBytes) -> usize {
         unreachable!()
     }
@@ -49,4 +79,7 @@ mod published {
     }
 }
 
-pub use published::{allocate, checksum_slot, compact_length, set_checksum_slot};
+pub use published::{
+    allocate, allocate_as_published, checksum_slot, compact_length, published_after,
+    set_checksum_slot,
+};

@@ -10,7 +10,7 @@ fn skipped() {
 #[cfg(carryfs)]
 mod cases {
     use model::{Call, Store, Time, Volume};
-    use oracle::{Error, Outcome, compact_group, private};
+    use oracle::{Error, Outcome, compact_group, parts, private};
 
     const TIME: Time = Time::new(1, 2);
     const ENTERED: Time = Time::new(3, 4);
@@ -167,7 +167,9 @@ mod cases {
         let blocks = 17 + seams.len() as u64;
         let mut store = store_with(7, blocks + free, 1);
         let mut volume = Volume::decode(&store);
-        // The blocks left out are used while the unit is laid down, and stay so.
+        // The blocks left out are used while the unit is laid down, and stay so;
+        // those behind it only while it is, since it would find a run there.
+        volume.used[blocks as usize..].fill(true);
         let mut next = 0;
         for place in 0..16 {
             next += 1;
@@ -180,6 +182,9 @@ mod cases {
         let written = write(&mut store, 7, 0, &[5; 65_536]);
         assert_eq!(written, Outcome::Accepted(65_536));
         assert_eq!(extents(&store).len(), 1 + seams.len());
+        let mut volume = Volume::decode(&store);
+        volume.used[blocks as usize..].fill(false);
+        volume.encode(&mut store);
         store
     }
 
@@ -292,6 +297,77 @@ mod cases {
         let told = write_archive(&mut by_archive, 7, 65_536, &[1]);
         assert_eq!(told, Outcome::Accepted(1));
         assert_eq!(retired(&by_archive), 2 + 4);
+    }
+
+    /// A used map of so many blocks, of which only these are free.
+    fn only_free(blocks: u64, free: &[u64]) -> Vec<u8> {
+        let mut used = vec![0; model::store::map_bytes(blocks)];
+        for block in (0..blocks).filter(|block| !free.contains(block)) {
+            used[block as usize / 8] |= 1 << (block % 8);
+        }
+        used
+    }
+
+    /// The blocks of each unit, with one run sought first and as published.
+    fn both(used: &[u8], blocks: u64, hint: u64, wanted: &[u64]) -> [Vec<Vec<u64>>; 2] {
+        let blocks_of = |units: Vec<(Vec<u64>, u64)>| units.into_iter().map(|unit| unit.0);
+        [
+            blocks_of(parts::allocate(used, blocks, hint, wanted)).collect(),
+            blocks_of(parts::allocate_as_published(used, blocks, hint, wanted)).collect(),
+        ]
+    }
+
+    /// W-208: what is put before the published text.
+    #[test]
+    fn one_run_is_sought_first() {
+        let free: Vec<u64> = [3, 30, 32].into_iter().chain(10..26).collect();
+        let [one_run, published] = both(&only_free(40, &free), 40, 0, &[16, 2]);
+        let run: Vec<u64> = (10..26).collect();
+        assert_eq!(one_run, [run, vec![30, 32]]);
+        let lowest: Vec<u64> = [3].into_iter().chain(10..25).collect();
+        assert_eq!(published, [lowest, vec![25, 30]]);
+
+        let free: Vec<u64> = [100, 101, 16_424, 16_425]
+            .into_iter()
+            .chain(16_394..16_410)
+            .collect();
+        let [one_run, _] = both(&only_free(16_430, &free), 16_430, 0, &[16, 2]);
+        let run: Vec<u64> = (16_394..16_410).collect();
+        assert_eq!(one_run, [run, vec![16_424, 16_425]]);
+
+        // Over a group's end there is none, and the published text answers.
+        let free = [5, 7, 16_382, 16_383, 16_384, 16_385];
+        let [one_run, published] = both(&only_free(16_430, &free), 16_430, 0, &[4]);
+        assert_eq!(one_run, [[5, 7, 16_382, 16_383]]);
+        assert_eq!(one_run, published);
+    }
+
+    /// Where no two free blocks adjoin there is no run but of one block, which is
+    /// the lowest of its group: a unit alone has the same blocks by both.
+    #[test]
+    fn without_a_run_it_is_the_published_text() {
+        let free: Vec<u64> = (1..200).step_by(2).chain([16_385, 16_390]).collect();
+        let used = only_free(16_400, &free);
+        for hint in 0..4 {
+            for wanted in 0..=103 {
+                let [one_run, published] = both(&used, 16_400, hint, &[wanted]);
+                assert_eq!(one_run, published, "{wanted} from {hint}");
+                assert_eq!(one_run.is_empty(), wanted > 102);
+            }
+            // And so have units that each want more than one.
+            let [one_run, published] = both(&used, 16_400, hint, &[16, 16, 2, 16, 5]);
+            assert_eq!(one_run, published, "from {hint}");
+        }
+    }
+
+    /// No block is wanted: none is taken, also where none is free.
+    #[test]
+    fn no_block_wanted() {
+        for free in [&[][..], &[3, 4]] {
+            let [one_run, published] = both(&only_free(8, free), 8, 0, &[0, 0]);
+            assert_eq!(one_run, [[0; 0], []]);
+            assert_eq!(one_run, published);
+        }
     }
 
     #[test]

@@ -1,7 +1,8 @@
 //! `compare [--seed S] [--calls N]`: random calls through the archive, document
-//! 01's model and the published Rust, until the archive has answered N; then as
-//! many of other histories against demand 3's plain arrays. Where they part, what
-//! the difference does not need is taken away, and the case is written to a file.
+//! 01's model and the published Rust, until the archive has answered N, one of a
+//! hundred on three fragmented allocation groups; then as many of other histories
+//! against demand 3's plain arrays. Where they part, what the difference does not
+//! need is taken away, and the case is written to a file.
 //! `compare --replay FILE`: the calls of such a file again.
 
 #[path = "../tests/archive/mod.rs"]
@@ -49,6 +50,10 @@ fn three(seed: u64, calls: u64) -> bool {
     let mut progress = Progress::new(calls);
     let mut three = Three::default();
     let mut number = 0;
+    if let Err(failure) = three.wide(&Archive, seed, (calls / 100) as usize) {
+        report(&failure);
+        return false;
+    }
     while three.library < calls {
         if let Err(failure) = three.history(&Archive, seed, number) {
             report(&failure);
@@ -60,8 +65,9 @@ fn three(seed: u64, calls: u64) -> bool {
     println!("seed {seed}, histories 0 to {}", number - 1);
     print!("{}", three.tally.report());
     println!(
-        "{} calls of the library; no other difference in {} s",
+        "{} calls of the library, {} of them on three fragmented allocation groups; no other difference in {} s",
         three.library,
+        three.wide,
         progress.seconds()
     );
     true

@@ -17,7 +17,7 @@ use compare::three::Three;
 const CALLS: u64 = 20_000;
 
 /// Calls in `host/recorded`.
-const RECORDED: u64 = 2_723 + 19;
+const RECORDED: u64 = 2_762 + 19;
 
 #[test]
 fn library_model_and_rust_part_only_where_it_is_listed() {

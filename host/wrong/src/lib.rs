@@ -2,7 +2,7 @@
 //! of a library or of the model; a test sees that the comparison finds every
 //! one. `wrong.edits` lists them, `build.rs` makes them.
 
-use std::cell::Cell;
+use std::cell::{Cell, RefCell};
 
 use model::*;
 
@@ -21,6 +21,9 @@ include!(concat!(env!("OUT_DIR"), "/names.rs"));
 thread_local! {
     /// The wrong model that answers on this thread; 0 for the model as it is.
     static WHICH: Cell<usize> = const { Cell::new(0) };
+    /// What a wrong model notes within one call, where the model has nothing to
+    /// note it in: blocks, a hint, or that something is so.
+    static NOTED: RefCell<Vec<u64>> = const { RefCell::new(Vec::new()) };
 }
 
 fn which() -> usize {
@@ -29,6 +32,18 @@ fn which() -> usize {
 
 fn on(wrong: usize) -> bool {
     which() == wrong
+}
+
+fn noted() -> Vec<u64> {
+    NOTED.with_borrow(Clone::clone)
+}
+
+fn note(noted: impl IntoIterator<Item = u64>) {
+    NOTED.with_borrow_mut(|all| all.extend(noted));
+}
+
+fn forget() {
+    NOTED.with_borrow_mut(Vec::clear);
 }
 
 /// A wrong model by its place in the list, from 1 on; 0 is the model as it is,
@@ -57,6 +72,7 @@ impl Wrong {
 
     pub fn run(self, store: &mut Store, call: &Call) -> Answer {
         WHICH.set(self.0);
+        forget();
         let answer = rules::run(store, call);
         WHICH.set(0);
         answer

@@ -7,9 +7,11 @@ use std::process::ExitCode;
 use std::time::{Duration, Instant};
 use std::{env, fs};
 
+use compare::library::Whole;
 use compare::recorded::{Case, Reader, Source, Writer};
-use compare::run::{Failure, Tally, Verdict, compare_history, judge};
+use compare::run::{Failure, Verdict, compare_history, judge};
 use compare::shrink::{describe, minimise};
+use compare::three::Three;
 use model::{Call, Store};
 
 fn main() -> ExitCode {
@@ -30,7 +32,13 @@ fn main() -> ExitCode {
         return ExitCode::FAILURE;
     }
     let (started, mut told) = (Instant::now(), Instant::now());
-    let mut tally = Tally::default();
+    // One of a hundred on three fragmented allocation groups, by the model twice.
+    let mut three = Three::default();
+    if let Err(failure) = three.wide(&Whole(model::run), seed, (calls / 100) as usize) {
+        report(&failure);
+        return ExitCode::FAILURE;
+    }
+    let (mut tally, wide) = (three.tally, three.wide);
     let mut number = from;
     while tally.compared < calls {
         if let Err(failure) = compare_history(seed, number, &oracle::run, &mut tally) {
@@ -44,7 +52,10 @@ fn main() -> ExitCode {
             println!("{seconds} s: {} of {calls} calls compared", tally.compared);
         }
     }
-    println!("seed {seed}, histories {from} to {}", number - 1);
+    println!(
+        "seed {seed}, {wide} calls on three fragmented allocation groups, histories {from} to {}",
+        number - 1
+    );
     print!("{}", tally.report());
     println!("no other difference in {} s", started.elapsed().as_secs());
     ExitCode::SUCCESS
