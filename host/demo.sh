@@ -1,8 +1,9 @@
 #!/usr/bin/env bash
 # The command `sangueko` on a store in a temporary folder: a file of flags is written, overwritten, shown, settled and read back, and it is told which parts
-# of it hold data; a batch of writes is made, and one that stops; a byte is written with `--archive` and without; a write is killed; then one byte of a
-# copy is damaged in each of several ways, a copy gets the cards of an older store, and the refusals are shown in words. Every answer is compared with what
-# it has to be: the script fails where one is not. It needs the archive (`rt staticlib volume`), ends by itself and leaves nothing behind.
+# of it hold data; a batch of writes is made, and one that stops; a byte is written with `--archive` and without; files are written into a store with
+# holes; a write is killed; then one byte of a copy is damaged in each of several ways, a copy gets the cards of an older store, and the refusals are shown
+# in words. Every answer is compared with what it has to be: the script fails where one is not. It needs the archive (`rt staticlib volume`), ends by itself
+# and leaves nothing behind.
 set -euo pipefail
 cd "$(dirname "$0")/.."
 cargo build --release --offline --quiet --manifest-path host/tool/Cargo.toml
@@ -137,6 +138,30 @@ done
 say "Eight blocks are free now: too few for --archive, and enough without"
 ends 13 write whole 7 byte --at 20000 --archive
 ends 0 write whole 7 byte --at 20000
+
+say "Eight files of a block each, of which every second was written again: the blocks that they gave up are holes"
+run new holes --blocks 16 --cards 10
+for file in 1 2 3 4 5 6 7 8; do "$sangueko" enter holes "$file" >told; done
+printf '%s 0 61\n' 1 2 3 4 5 6 7 8 2 4 6 8 >list
+run batch holes list
+run settle holes
+# the map of a store, one letter for each block
+map() { "$sangueko" show "$1" --json | sed 's/.*"map":"\(.*\)".*/\1/' | tee told; }
+map holes
+grep -qx 'A\.C\.E\.G\.BDFH\.\.\.\.' told
+
+say "A file of four blocks is in one piece behind them; the next is not, as no four are side by side any more"
+bytes 16384 252 >four
+for file in 9 10; do
+    run enter holes "$file"
+    run write holes "$file" four
+    map holes
+done
+grep -qx AJCJEJGJBDFHIIII told
+"$sangueko" show holes | grep -o 'file [0-9]*: 16,384 .* in [0-9] pieces*' | tee told
+grep -q '^file 9: .* in 1 piece$' told
+grep -q '^file 10: .* in 4 pieces$' told
+ends 0 check holes
 
 say "A write of four calls is killed on the way: the store is as after some whole call"
 run new large --blocks 2000

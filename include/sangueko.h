@@ -33,6 +33,15 @@
  * refusals 2, 9 to 12 and 14 never come.
  * Of buffers that something else has changed the theorem says nothing; a call does with them what its equation says.
  *
+ * New blocks. A call that changes a file writes to free blocks, unit by unit (64 KiB of a file, at most 16 blocks). For that the image is divided into
+ * allocation groups of 16,384 blocks, 64 MiB, of which the last may be shorter. The new blocks of a unit are one run, side by side and ascending,
+ * wherever an allocation group has so many free ones side by side: the first blocks of the lowest run that is long enough, in the first group that has
+ * one. The search begins with the group of the block that was taken last, in a fresh store with the first, and goes around. Where no group has such a run
+ * they are single free blocks, found in the same order of groups, in each from behind the highest block that the call has taken there, then around.
+ * So expect a run for each unit, but not for a write of several units, which may lie apart; none over the end of an allocation group; and none that
+ * takes in the old blocks that a unit keeps, which stay where they are. Retired blocks are not free: sangueko_settle before a write makes longer runs.
+ * Whether there are enough blocks, refusal 13, does not depend on where they lie.
+ *
  * Cards. No call gives a file's size or times: they stand on its card, which may be read. The cards lie one behind the other, ascending by object, and
  * the head says how many they are, in the 20 bits behind its first 164. A card's fields are packed, each most significant bit first: object 64 bits,
  * size 63, blocks 35, the time of the last change as seconds 63 and nanoseconds 30, the time of the creation likewise, and 36 bits that are zero.
@@ -120,7 +129,7 @@ enum sangueko_refusal {
     SANGUEKO_NONZERO_PAST_END = 11,
     /* A unit's bytes do not have its checksum. */
     SANGUEKO_CHECKSUM_DIFFERS = 12,
-    /* Too few blocks are free. */
+    /* Too few blocks are free, wherever they lie. */
     SANGUEKO_NO_SPACE = 13,
     /* The card's count of blocks disagrees with the blocks, or would grow past 2^35 - 1. */
     SANGUEKO_COUNT_DISAGREES = 14,
@@ -175,8 +184,9 @@ struct sangueko_answer sangueko_enter(
 
 /*
  * Writes `bytes` into the file from `offset` on, over what was there: all of them, or the first SANGUEKO_MOST_TRANSFER. Past its end the file grows,
- * and what lies between reads as zeros. The time of its last change becomes the one given; that of its creation stays. New bytes go to free blocks; the
- * blocks whose place they take stay used, as retired ones, until sangueko_settle. Empty `bytes` change nothing, not even the time.
+ * and what lies between reads as zeros. The time of its last change becomes the one given; that of its creation stays. New bytes go to free blocks, for
+ * each unit side by side where so many are ("New blocks" above); the blocks whose place they take stay used, as retired ones, until sangueko_settle.
+ * Empty `bytes` change nothing, not even the time.
  * Count: the bytes taken; the rest is left to another call. 0 where `bytes` is empty. Refused, in this order, by 1, 2, 3 (no such file), 5 (where
  * the bytes that are taken end), 7 (the time), unit by unit by 9 to 12 (if old bytes of it stay) and by 13 and 14, and at last by 15 and 16. Empty
  * `bytes` are refused by 1, 2 and 3 alone.
@@ -198,7 +208,8 @@ struct sangueko_answer sangueko_write(
  * where its bytes lie can differ. A write rewrites a unit in new blocks. The old ones that it writes no byte into, and that the file fills before and
  * after it, stay if the unit then has few runs; else none does. A run is blocks of the unit side by side that are all new, or all kept and side by side
  * in the image too. sangueko_write, each write of a batch and sangueko_grow keep blocks at four runs or fewer, and this call at two or fewer. So it
- * leaves at most one run of old blocks in a unit that it rewrites; the new ones lie where free ones are found, in one piece only where those do.
+ * leaves at most one run of old blocks in a unit that it rewrites. Where the new ones are side by side ("New blocks" above) the unit then lies in at most
+ * two pieces, and by the others in at most four; else each new block may be a piece of its own.
  * What it costs: a byte written inside a unit of 16 blocks in one piece takes 1 new block by sangueko_write and 16 by this call; in the first or the last
  * of the 16 it takes 1 by both. As many old ones are retired until sangueko_settle. So 13 can come where sangueko_write is accepted; and 16 can come by
  * one of the two alone, as the number of extents that they leave differs. Both may be called on one store, and on one file, in any order.

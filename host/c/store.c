@@ -1,8 +1,8 @@
 /*
- * The library from C: a store of 8 blocks with 1 reserved, a file that is written and grown, and each refusal that the calls give; and one of 40 blocks, in
- * which a file of one unit is written by both calls that write. A buffer that a call takes as `const`, and every buffer of a call that is to be refused,
- * stands in pages that cannot be written meanwhile: a write there ends the program. Every byte of the store is compared after each change. Exits with 1 at
- * any difference.
+ * The library from C: a store of 8 blocks with 1 reserved, a file that is written and grown, where its new blocks lie, and each refusal that the calls
+ * give; and one of 40 blocks, in which a file of one unit is written by both calls that write. A buffer that a call takes as `const`, and every buffer of a
+ * call that is to be refused, stands in pages that cannot be written meanwhile: a write there ends the program. Every byte of the store is compared after
+ * each change. Exits with 1 at any difference.
  */
 #define _DEFAULT_SOURCE
 
@@ -943,6 +943,34 @@ static void archives(struct store *s, uint8_t *kept[BUFFERS])
     reads_as("the last edge", &wide, file, sizeof file);
 }
 
+/* Three new blocks: side by side where so many are free, though single ones are lower; and single ones where no three are. */
+static void one_run(struct store *s, uint8_t *kept[BUFFERS])
+{
+    static uint8_t file[3 * SANGUEKO_BLOCK_BYTES];
+    static const struct {
+        uint8_t used, n;
+        struct run runs[3];
+    } maps[] = { { 0x15, 1, { { 0, 5, 3 } } }, { 0x55, 3, { { 0, 1, 1 }, { 1, 3, 1 }, { 2, 5, 1 } } } };
+    const size_t len = 9000;
+    memcpy(file, bytes, len);
+    open_all(s);
+    for (size_t i = 0; i < sizeof maps / sizeof maps[0]; i++) {
+        accepted("fresh for runs", fresh(s, sizeof uuid, 1), 0);
+        accepted("enter 5 for runs", enter(s, 5, 0, 0), 0);
+        accepted("enter 7 for runs", enter(s, 7, 0, 0), 0);
+        /* used blocks of no file, which no rule forbids */
+        s->at[USED][0] = maps[i].used;
+        keep(s, kept);
+        accepted("write among used blocks", write_at(s, 7, 0, len, 10, 0), len);
+        expect_card(kept, len, 3, 10, 0);
+        expect_group(kept, file, (uint32_t)len);
+        expect_extents(kept, maps[i].runs, maps[i].n);
+        for (uint8_t n = 0; n < maps[i].n; n++)
+            expect_blocks(kept, file, maps[i].runs[n]);
+        unchanged("write among used blocks", s, kept);
+    }
+}
+
 /* The books may have no place: any pointer that is not null will do. */
 static void no_places(struct store *s)
 {
@@ -1137,6 +1165,7 @@ int main(void)
     changes(&s, kept);
     batches(&s, kept);
     archives(&s, kept);
+    one_run(&s, kept);
     no_places(&s);
     holes(&s, kept);
 

@@ -1,16 +1,17 @@
 //! The call for archives, by which a unit keeps old blocks only at two runs:
 //! what a call takes beside `write`, and beside the published Rust with its limit
 //! set to 2; and what it is for, the pieces of a long file after many small
-//! writes, with the blocks that it takes for that.
+//! writes, with the blocks that it takes for that. By both calls the new blocks of
+//! a unit are one run where so many free ones are side by side.
 
 use std::hint::black_box;
 use std::time::{Duration, Instant};
 
 use model::records::Head;
-use model::{BLOCKS_PER_UNIT, Store, UNIT_BYTES, Volume};
+use model::{BLOCKS_PER_UNIT, Extent, Store, UNIT_BYTES, Volume};
 use oracle::{ArchiveMounted, compute_checksums_by};
 use random::Rng;
-use sangueko::{BLOCK_BYTES, MOST_TRANSFER, Places, Refusal, StoreBuf};
+use sangueko::{BLOCK_BYTES, EXTENT_BYTES, MOST_TRANSFER, Places, Refusal, StoreBuf};
 
 use crate::checksum::by_instruction;
 use crate::stores::{Extents, OBJECT, extents, lend, places, store};
@@ -88,7 +89,7 @@ pub fn compared() {
             row(shape.name, best);
         }
     }
-    effect();
+    pieces();
 }
 
 /// Where the writes of a shape begin: units of which all that it writes lies in
@@ -186,21 +187,24 @@ const LONG: u64 = 256;
 /// How many single blocks are written over, one after the other.
 const OVERWRITES: [u32; 4] = [64, 256, 1_024, 4_096];
 
-/// Overwrites before each settle: after one the next finds its blocks where that
-/// one gave them up, after 64 they lie apart.
+/// Overwrites before each settle. After each one just as many blocks are free as a
+/// unit has, so that a unit of which none is kept gets these, wherever they lie.
+/// After 64 there are more, and so a choice of runs.
 const SETTLED: [u32; 2] = [1, 64];
 
 /// What becomes of a file that was written in one piece.
 #[derive(Debug, PartialEq)]
 struct Left {
     extents: usize,
+    /// Units that lie in one piece.
+    whole: usize,
     /// New blocks of the overwrites, all together.
     blocks: u64,
 }
 
-fn effect() {
+pub fn pieces() {
     println!(
-        "-- 16 MiB in one piece, then single blocks at random: extents at the end, and blocks written"
+        "-- 16 MiB in one piece, then single blocks at random: extents at the end, units in one piece of {LONG}, and blocks written"
     );
     for settled in SETTLED {
         println!("settled after each {settled}");
@@ -210,10 +214,12 @@ fn effect() {
                 left
             });
             println!(
-                "  {overwrites:>5} overwrites: by the archive call {:>5} and {:>6}, by write {:>5} and {:>6}   {:>5.2} of the extents, {:>5.2} of the blocks",
+                "  {overwrites:>5} overwrites: by the archive call {:>5}, {:>3} and {:>6}, by write {:>5}, {:>3} and {:>6}   {:>5.2} of the extents, {:>5.2} of the blocks",
                 archive.extents,
+                archive.whole,
                 archive.blocks,
                 write.extents,
+                write.whole,
                 write.blocks,
                 archive.extents as f64 / write.extents as f64,
                 archive.blocks as f64 / write.blocks as f64
@@ -265,8 +271,20 @@ fn overwritten(by: By, units: u64, overwrites: u32, settled: u32) -> (Left, Vec<
     {
         assert_eq!(lent.read(OBJECT, at, part), Ok(part.len() as u64));
     }
+    let extents: Vec<Extent> = buffers
+        .extents
+        .chunks(EXTENT_BYTES)
+        .take(Head::decode(&buffers.head).extents)
+        .map(Extent::decode)
+        .collect();
+    let in_one_piece = |unit: &u64| {
+        let (first, end) = (unit * BLOCKS_PER_UNIT, (unit + 1) * BLOCKS_PER_UNIT);
+        let holds = |extent: &Extent| extent.logical <= first && end <= extent.end();
+        extents.iter().any(holds)
+    };
     let left = Left {
-        extents: Head::decode(&buffers.head).extents,
+        extents: extents.len(),
+        whole: (0..units).filter(in_one_piece).count(),
         blocks: retired,
     };
     (left, file)
@@ -286,6 +304,7 @@ mod tests {
             let (write, bytes) = overwritten(By::Write, units, overwrites, settled);
             assert!(its_bytes == bytes, "the files part");
             assert!(archive.extents < write.extents, "{archive:?} {write:?}");
+            assert!(archive.whole > write.whole, "{archive:?} {write:?}");
             assert!(archive.blocks > write.blocks, "{archive:?} {write:?}");
             assert!(write.blocks >= u64::from(overwrites), "{write:?}");
             assert!(archive.blocks <= u64::from(overwrites) * BLOCKS_PER_UNIT);
@@ -297,11 +316,12 @@ mod tests {
     fn a_file_is_first_in_one_piece() {
         for by in [By::Archive, By::Write] {
             let (left, _) = overwritten(by, 20, 0, 1);
-            let whole = Left {
+            let first = Left {
                 extents: 1,
+                whole: 20,
                 blocks: 0,
             };
-            assert_eq!(left, whole);
+            assert_eq!(left, first);
         }
     }
 }

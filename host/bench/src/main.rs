@@ -7,7 +7,7 @@
 //! archives stands beside `write`, in time and in what it leaves of a long file.
 //!
 //! `bench [reads] [many] [writes] [batches] [archive] [extents] [stretches]`: those
-//! parts, or all of them.
+//! parts, or all of them; `pieces` is what `archive` tells of the long file, alone.
 
 mod archive;
 mod batches;
@@ -66,6 +66,8 @@ fn main() {
     }
     if part("archive") {
         archive::compared();
+    } else if part("pieces") {
+        archive::pieces();
     }
     if part("extents") {
         by_extents();

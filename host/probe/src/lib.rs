@@ -76,6 +76,17 @@ mod probe {
             out: *mut u8,
             out_len: usize,
         ) -> usize;
+        pub fn sangueko_probe_allocate_scattered(
+            map: *mut u8,
+            map_len: usize,
+            blocks: u64,
+            hint: u64,
+            past: *mut u8,
+            past_len: usize,
+            want: usize,
+            out: *mut u8,
+            out_len: usize,
+        ) -> usize;
     }
 }
 
@@ -182,6 +193,29 @@ pub struct Call {
     past: [u8; 32],
 }
 
+/// How a unit's blocks are found.
+#[derive(Clone, Copy, Debug, PartialEq)]
+pub enum Way {
+    /// As one run where a group has one that is long enough, and else one by one.
+    Run,
+    /// One by one, as `allocate_data` did before runs were sought. No call of the
+    /// library allocates so; it is kept to be compared with.
+    Scattered,
+}
+
+/// What a probe of `allocate_data` answers in bytes: sixteen blocks, then the hint.
+struct Answer([u8; 136]);
+
+impl Answer {
+    fn number(&self, at: usize) -> u64 {
+        u64::from_le_bytes(self.0[8 * at..8 * at + 8].try_into().unwrap())
+    }
+
+    fn blocks(&self, count: usize) -> impl Iterator<Item = u64> {
+        (0..count).map(|at| self.number(at))
+    }
+}
+
 impl Call {
     pub fn new(used: &[u8], blocks: u64, hint: u64) -> Self {
         let past = [0; 32];
@@ -193,12 +227,53 @@ impl Call {
         }
     }
 
+    /// The used map with the blocks that were taken.
+    pub fn map(&self) -> &[u8] {
+        &self.map
+    }
+
     /// The blocks of the next unit and the hint after it, or nothing where
     /// fewer than wanted are free.
     pub fn allocate(&mut self, want: usize) -> Option<(Vec<u64>, u64)> {
-        let mut out = [0u8; 136];
+        self.unit(Way::Run, want)
+    }
+
+    /// The same by the rule of before: the blocks are found one by one.
+    pub fn allocate_scattered(&mut self, want: usize) -> Option<(Vec<u64>, u64)> {
+        self.unit(Way::Scattered, want)
+    }
+
+    pub fn unit(&mut self, way: Way, want: usize) -> Option<(Vec<u64>, u64)> {
+        let (answer, found) = self.asked(way, want);
+        let found = found?;
+        self.hint = answer.number(16);
+        Some((answer.blocks(found).collect(), self.hint))
+    }
+
+    /// For the benchmark: a unit is asked for, and all is as before it, so that the
+    /// next time is the same. Only what the unit changed is put back: a copy of
+    /// the map would take longer than most searches. Answers how many blocks it got.
+    #[inline]
+    pub fn unit_and_back(&mut self, way: Way, want: usize) -> usize {
+        let past = self.past;
+        let (answer, found) = self.asked(way, want);
+        self.past = past;
+        let found = found.unwrap_or(0);
+        for block in answer.blocks(found) {
+            self.map[block as usize / 8] &= !(1 << (block % 8));
+        }
+        found
+    }
+
+    #[inline]
+    fn asked(&mut self, way: Way, want: usize) -> (Answer, Option<usize>) {
+        let probe = match way {
+            Way::Run => probe::sangueko_probe_allocate,
+            Way::Scattered => probe::sangueko_probe_allocate_scattered,
+        };
+        let mut answer = Answer([0; 136]);
         let found = unsafe {
-            probe::sangueko_probe_allocate(
+            probe(
                 self.map.as_mut_ptr(),
                 self.map.len(),
                 self.blocks,
@@ -206,15 +281,11 @@ impl Call {
                 self.past.as_mut_ptr(),
                 self.past.len(),
                 want,
-                out.as_mut_ptr(),
-                out.len(),
+                answer.0.as_mut_ptr(),
+                answer.0.len(),
             )
         };
         assert_ne!(found, 18, "the arguments do not fit");
-        let number = |at: usize| u64::from_le_bytes(out[8 * at..8 * at + 8].try_into().unwrap());
-        (found != 17).then(|| {
-            self.hint = number(16);
-            ((0..found).map(number).collect(), self.hint)
-        })
+        (answer, (found != 17).then_some(found))
     }
 }

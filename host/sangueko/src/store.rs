@@ -92,6 +92,15 @@ impl Store<'_> {
     /// New bytes go to free blocks. Those they take the place of stay used, as
     /// retired blocks, until [`settle`](Store::settle) lets them go.
     ///
+    /// The new blocks of a unit, of [`UNIT_BYTES`](crate::UNIT_BYTES), lie side by
+    /// side wherever an allocation group of 16,384 blocks has so many free ones side
+    /// by side: the lowest such place in the first group that has one, from the
+    /// group of the block on that was taken last, around. Where no group has one,
+    /// they are single free blocks. That holds for each unit by itself: units of one
+    /// write may lie apart, a run does not go over a group's end, and blocks that a
+    /// unit keeps stay where they are. Retired blocks are not free, so that a
+    /// `settle` before a write makes longer runs.
+    ///
     /// # Errors
     ///
     /// In this order: [`WrongLength`](Refusal::WrongLength),
@@ -146,7 +155,9 @@ impl Store<'_> {
     /// side by side in the image too. `write`, each write of a batch and
     /// [`grow`](Store::grow) keep blocks at four runs or fewer, and this call at
     /// two or fewer. So it leaves at most one run of old blocks in a unit that it
-    /// rewrites; the new ones lie where free ones are found.
+    /// rewrites. Where the new ones lie side by side, as `write` says, the unit is
+    /// then in at most two pieces, and by the others in at most four; else each new
+    /// block may be a piece of its own.
     ///
     /// One changed byte can take as many new blocks as its unit has, up to 16, and
     /// retire as many, where `write` takes one. Both may be called on one store,

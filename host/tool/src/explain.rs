@@ -66,7 +66,8 @@ fn advice(refusal: Refusal) -> (&'static str, &'static str) {
         Refusal::NoSpace => (
             "write, with --archive sooner than without, batch, grow",
             "`sangueko settle FOLDER` lets retired blocks go; `sangueko show FOLDER` tells how many there are. If that is too few, make a larger \
-             store and copy the files over with read and write. `write --archive` can take 16 blocks where one changes: without --archive the same \
+             store and copy the files over with read and write. Where the free blocks lie does not matter: single ones are taken \
+             where not enough are side by side. `write --archive` can take 16 blocks where one changes: without --archive the same \
              write may be accepted. What a write stored in earlier calls, or a batch in earlier \
              writes, stays stored, and the message says how much.",
         ),
@@ -82,8 +83,9 @@ fn advice(refusal: Refusal) -> (&'static str, &'static str) {
         Refusal::NoExtentPlace => (
             "write, batch, grow",
             "The files lie in too many pieces for the book. Settle, then write files again in one go, or make a store with more \
-             --extents; as many as there are blocks are always enough. `write --archive` leaves a unit in fewer pieces than `write` where \
-             free blocks lie side by side.",
+             --extents; as many as there are blocks are always enough. Settled blocks make longer gaps, and the new blocks of a unit of \
+             65,536 bytes lie side by side wherever a gap is long enough: the unit is then in four pieces at most, and in two after \
+             `write --archive`. Where no gap is, each new block can be a piece.",
         ),
         Refusal::BadReads => (
             "no command, since the tool makes its lists itself; programs that call the library",

@@ -81,7 +81,9 @@ and the message says how many bytes they were.
   --time S       seconds since 1970, with up to nine digits after a point (now)
   --no-wait      do not wait for another process, end with 75
 
-The same bytes are stored with --archive and without, and one file may be written by both in any order.
+The same bytes are stored with --archive and without, and one file may be written by both in any order. The new blocks of
+a unit of 65,536 bytes lie side by side where so many free ones do, and else one by one; `sangueko settle` before a write
+makes longer gaps. docs/TOOL.md says more.
 ",
     },
     Spec {
@@ -143,7 +145,8 @@ time is that of its last change; when it was created stays as it is.
         options: &[],
         switches: &[NO_WAIT],
         help: "\
-Lets the retired blocks go, which writes have taken the place of, and tells how many they were.
+Lets the retired blocks go, which writes have taken the place of, and tells how many they were. They are free then, so
+that more blocks lie side by side for the writes that follow.
 
   --no-wait      do not wait for another process, end with 75
 ",

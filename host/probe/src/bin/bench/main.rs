@@ -1,6 +1,9 @@
 //! Measures the proved functions against plain Rust, in one run and as ratios. Both are built for release; every buffer is filled, and touched once,
 //! before it is timed.
+//!
+//! `bench [crc] [ranges] [maps] [book] [searches] [allocation]`: those parts, or all of them.
 
+mod allocation;
 mod measure;
 mod plain;
 
@@ -23,14 +26,26 @@ fn filled(len: usize) -> Vec<u8> {
 }
 
 fn main() {
+    let asked: Vec<String> = std::env::args().skip(1).collect();
+    let parts: [(&str, fn()); 6] = [
+        ("crc", checksums),
+        ("ranges", ranges),
+        ("maps", maps),
+        ("book", book),
+        ("searches", searches),
+        ("allocation", allocation::compared),
+    ];
     println!("{:<66} {:>8} {:>8}", "", "ours", "theirs");
+    for (name, part) in parts {
+        if asked.is_empty() || asked.iter().any(|asked| asked == name) {
+            part();
+        }
+    }
+}
+
+fn checksums() {
     crc();
     pieces();
-    ranges();
-    maps();
-    book();
-    searches();
-    allocation();
 }
 
 /// The register goes from one feed to the next, on either side: what a call does that has lent its tables once.
@@ -250,28 +265,5 @@ fn searches() {
         beside("an ordered map", &|block| {
             black_box(plain::floor_in(black_box(&map), 7, block));
         });
-    }
-}
-
-/// The largest store, full but for its last word.
-fn allocation() {
-    let mut used = vec![0xffu8; 8192];
-    used[8184..].fill(0);
-    for (hint, name) in [(0, "from the first group"), (3, "from the last group")] {
-        let ours = || {
-            black_box(proved::Call::new(black_box(&used), 65_536, hint).allocate(16));
-        };
-        if !oracle::skipped("allocate_data") {
-            let theirs = || {
-                black_box(oracle::parts::allocate(
-                    black_box(&used),
-                    65_536,
-                    hint,
-                    &[16],
-                ));
-            };
-            let name = format!("allocate_data, full but 64 blocks, {name}");
-            times(&name, pair(ROUNDS, SPAN, ours, theirs));
-        }
     }
 }

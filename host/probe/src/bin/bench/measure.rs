@@ -59,3 +59,18 @@ pub fn times(name: &str, (ours, theirs): (f64, f64)) {
         ours / theirs
     );
 }
+
+/// One line of a short job: both times, our time over theirs, and what was asked for.
+#[allow(dead_code)]
+pub fn nanoseconds(name: &str, (ours, theirs): (f64, f64), asked: Option<f64>) {
+    let ratio = ours / theirs;
+    let asked = asked.map_or(String::new(), |most| {
+        let over = if ratio > most { ": over it" } else { "" };
+        format!("   {most:.1} or less asked for{over}")
+    });
+    println!(
+        "{name:<66} {:>8.1} {:>8.1} ns     {ratio:>5.2} of its time{asked}",
+        ours * 1e9,
+        theirs * 1e9
+    );
+}

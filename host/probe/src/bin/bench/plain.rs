@@ -18,8 +18,8 @@ pub struct Slicing<const N: usize> {
 impl<const N: usize> Slicing<N> {
     pub fn new() -> Self {
         let mut tables = [[0u32; 256]; N];
-        for byte in 0..256 {
-            tables[0][byte] = (0..8).fold(byte as u32, |crc, _| turn(crc));
+        for (byte, entry) in tables[0].iter_mut().enumerate() {
+            *entry = (0..8).fold(byte as u32, |crc, _| turn(crc));
         }
         for k in 1..N {
             for byte in 0..256 {
