@@ -3,6 +3,8 @@
 //
 // A call tries refusals 1 and 2 first, and so does each write here; but a store that passes them, and maps no block at two places, is left such a store by
 // every write. So where no block is shared the tests are not made again.
+#![tactic(auto)]
+
 ghost use Rattle.std.specs.Prelude.{◌≡◌, false, ◌/◌, ◌≤◌, length};
 ghost use Rattle.rules.specs.Store.{lent, decode};
 ghost use Rattle.rules.specs.Triples.{triple_bytes, most_triples, decode_triples, lengths_of};

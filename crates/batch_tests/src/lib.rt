@@ -1,4 +1,6 @@
 // What is tested of a batch before its first write: refusal 18, and whether refusals 1 and 2 have to be tried again between the writes.
+#![tactic(auto)]
+
 ghost use Rattle.std.specs.Prelude.{◌≡◌};
 ghost use Rattle.rules.specs.Batch.{batch_wrong};
 ghost use Rattle.batch_tests.specs.Tests.{extents_counted, ExtentsPlaced, TellsAgain};

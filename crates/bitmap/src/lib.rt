@@ -4,6 +4,8 @@
 // have loops of their own, with no test in them but the one that is asked for, so that they run at the speed of memory.
 //
 // `bitmap_pairs` has what takes two maps.
+#![tactic(auto)]
+
 ghost use Rattle.std.specs.Prelude.{◌≡◌, true, false, not, ◌+◌, ◌-◌, ◌*◌, ◌%◌, ◌^◌, ◌≤◌, ◌<◌, length};
 ghost use Rattle.rules.specs.Lists.{if◌then◌else◌, all, count, range};
 ghost use Rattle.rules.specs.Bytes.{bit_set};

@@ -5,6 +5,8 @@
 // that a word is read from for more parts of the same sum, and read them one by one.
 //
 // `difference` takes the bits of one map from another.
+#![tactic(auto)]
+
 pub mod difference;
 
 ghost use Rattle.std.specs.Prelude.{◌≡◌, not, ◌+◌, ◌-◌, ◌*◌, ◌%◌, ◌≤◌, ◌<◌, length};

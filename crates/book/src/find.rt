@@ -66,7 +66,7 @@ pub fn find_group(s: &[u8], n: usize, object: u64, number: u64) -> Found
 }
 
 // What a search for a floor found, how many extents it puts before the key of object and block or at it, and in how many rounds.
-#[derive(Drop)]
+#[derive(Clone, Copy)]
 pub struct Searched {
     pub found: Found,
     pub place: usize,

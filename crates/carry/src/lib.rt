@@ -1,4 +1,6 @@
 // A planned change decided and carried out: refusals 15 and 16, and then all that it stores.
+#![tactic(auto)]
+
 ghost use Rattle.std.specs.Prelude.{◌≡◌, [], ℕ, ◌*◌, ◌≤◌, ◌<◌, length, get_or};
 ghost use Rattle.rules.specs.Sizes.{unit_bytes, most_blocks, most_size};
 ghost use Rattle.rules.specs.Extent.{extent_bytes};

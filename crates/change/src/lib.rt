@@ -1,6 +1,8 @@
 // A change to a file: planned, decided and carried out.
 //
 // The plan stores nothing, and whether the books that it leaves fit is known before anything is stored: a refused change leaves every byte as it was.
+#![tactic(auto)]
+
 ghost use Rattle.std.specs.Prelude.{◌≡◌, ◌*◌, ◌≤◌, length};
 ghost use Rattle.rules.specs.Extent.{extent_bytes};
 ghost use Rattle.rules.specs.Store.{lent};

@@ -1,4 +1,6 @@
 // A checksum group in hand: the checksums of 256 units of a file, as 32 presence bytes and 256 slot values.
+#![tactic(auto)]
+
 ghost use Rattle.std.specs.Prelude.{◌≡◌, ℕ, ◌+◌, ◌-◌, ◌*◌, ◌/◌, ◌%◌, ◌^◌, ◌≤◌, ◌<◌, eqb, length, get_or, set};
 ghost use mathlib.Core.List.{flat_map};
 ghost use Rattle.std.proofs.Math.Option.{none, some};
@@ -37,7 +39,7 @@ pub struct ChecksumGroup {
 }
 
 // What stands in a slot.
-#[derive(Drop)]
+#[derive(Clone, Copy)]
 pub enum Slot {
     Present(u32),
     Absent,

@@ -1,4 +1,6 @@
 // The count of blocks on a file's card, changed in place as a change goes from unit to unit.
+#![tactic(auto)]
+
 ghost use Rattle.std.specs.Prelude.{◌≡◌, ◌+◌, ◌≤◌, ◌<◌, ◌^◌};
 ghost use Rattle.count.specs.Counted.{counted_of, card_counted};
 

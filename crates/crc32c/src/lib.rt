@@ -2,6 +2,8 @@
 // tables a short message. `unit` has the checksum of a unit that comes in pieces.
 //
 // A caller begins, feeds parts, and finishes: `crc-parts` of proofs/Running.antt turns that into the checksum of the concatenation.
+#![tactic(auto)]
+
 pub mod unit;
 
 ghost use Rattle.std.specs.Prelude.{◌≡◌, ◌++◌, ◌^◌, ◌<◌, length};

@@ -8,7 +8,7 @@ ghost use Rattle.crc32c_tables.specs.Register.{Tables};
 ghost use Rattle.crc32c.specs.Unit.{UnitFed};
 
 // Where the register is.
-#[derive(Drop)]
+#[derive(Clone, Copy)]
 pub enum Running {
     Register(u32),
     Window,

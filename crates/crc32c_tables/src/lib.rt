@@ -1,6 +1,8 @@
 // CRC-32C by tables, sixteen bytes at once: a register of 32 bits, proved to be the remainder of the polynomial division (proofs/Division.antt).
 //
 // `tables` hands the tables out once: a constant that is indexed is copied at each use, so they go down by reference.
+#![tactic(auto)]
+
 mod table;
 
 ghost use Rattle.std.specs.Prelude.{◌≡◌, ◌+◌, ◌*◌, ◌/◌, ◌^◌, ◌≤◌, length, take, drop};

@@ -4,6 +4,8 @@
 // 528 bytes further on in the place of where it stands. That is a loop of exclusive ors over whole bytes, which the compiler takes sixteen at a
 // time; the tables are left with 528 bytes at the end. Of the multiples with six terms this one has the nearest bytes at a distance that is a
 // multiple of sixteen: they are read as they were stored.
+#![tactic(auto)]
+
 ghost use Rattle.std.specs.Prelude.{◌≡◌, ◌+◌, ◌≤◌, ◌<◌, length};
 ghost use Rattle.rules.specs.Bytes.{part};
 ghost use Rattle.crc32c_tables.specs.Register.{fed, Tables};

@@ -1,4 +1,6 @@
 // The packed fields of head and card, the most significant bit first: out of the words that hold them, and back.
+#![tactic(auto)]
+
 ghost use Rattle.std.specs.Prelude.{◌≡◌, ◌+◌, ◌*◌, ◌^◌, ◌≤◌, ◌<◌, length};
 ghost use Rattle.rules.specs.Bytes.{be, be_digits, part, patch, unpack, pack};
 ghost use Rattle.rules.specs.Head.{head_widths};
@@ -6,7 +8,7 @@ ghost use Rattle.rules.specs.Card.{card_bytes, card_widths};
 ghost use Rattle.fields.specs.Fields.{head_values, HeadFits, six_words, card_values, CardFits};
 
 // The 96 bits that follow the uuid in a head.
-#[derive(Drop)]
+#[derive(Clone, Copy)]
 pub struct Head {
     pub blocks: u64,
     pub reserved: u64,
@@ -17,7 +19,7 @@ pub struct Head {
 }
 
 // The 384 bits of a card: its times are that of the last change, and that of its making.
-#[derive(Drop)]
+#[derive(Clone, Copy)]
 pub struct Card {
     pub object: u64,
     pub size: u64,
@@ -83,14 +85,14 @@ pub fn read_card(s: &[u8], at: usize) -> Card
 }
 
 // The two words of a head.
-#[derive(Drop)]
+#[derive(Clone, Copy)]
 pub struct HeadWords {
     pub w0: u64,
     pub w1: u32,
 }
 
 // The six words of a card.
-#[derive(Drop)]
+#[derive(Clone, Copy)]
 pub struct CardWords {
     pub w0: u64,
     pub w1: u64,

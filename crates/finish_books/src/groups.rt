@@ -148,7 +148,7 @@ fn absent(groups: &[u8], n: usize, object: u64, number: u64) -> usize
 }
 
 // The groups that a change has to put in: `count` of them, from `number` on.
-#[derive(Drop)]
+#[derive(Clone, Copy)]
 pub struct Missing {
     pub number: u64,
     pub count: usize,

@@ -87,7 +87,7 @@ pub fn push_left(
 }
 
 // How many extents are in the buffer after what stands behind the stretch, and the place of the book from which on all stay.
-#[derive(Drop)]
+#[derive(Clone, Copy)]
 pub struct Closed {
     pub count: usize,
     pub next: usize,

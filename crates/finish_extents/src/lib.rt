@@ -3,6 +3,8 @@
 // All extents that a change exchanges stand side by side in the book. What is put in their place is made in a lent buffer first, so that its
 // number is known while the book is still as it was: `made` has the buffer, `ends` what is left of old extents at the two ends, `runs` the
 // blocks between them.
+#![tactic(auto)]
+
 ghost use Rattle.std.specs.Prelude.{◌≡◌, ◌++◌, ◌+◌, ◌-◌, ◌*◌, ◌≤◌, length, take, drop};
 ghost use Rattle.rules.specs.Sizes.{most_blocks};
 ghost use Rattle.rules.specs.Extent.{extent_bytes, encode_extent};
@@ -49,7 +51,7 @@ fn make(
 }
 
 // An exchange in the book: the `cut` extents from `place` on go, and the `count` that were made stand there.
-#[derive(Drop)]
+#[derive(Clone, Copy)]
 pub struct Exchange {
     pub place: usize,
     pub cut: usize,

@@ -1,5 +1,7 @@
 // Whether the books that a change leaves fit into their buffers. It is known before anything is stored: the finished groups are counted where they
 // are, and the extents that are put in are made in a lent buffer.
+#![tactic(auto)]
+
 ghost use Rattle.std.specs.Prelude.{◌≡◌, ◌*◌, ◌≤◌, length};
 ghost use Rattle.rules.specs.Sizes.{most_blocks};
 ghost use Rattle.rules.specs.Extent.{extent_bytes};
@@ -14,7 +16,7 @@ use finish_extents::Exchange;
 use format::extent::EXTENT_BYTES;
 
 // The number of the refusal or 0, how many groups there are after the change, and the exchange in the book of extents.
-#[derive(Drop)]
+#[derive(Clone, Copy)]
 pub struct Fit {
     pub number: u32,
     pub groups: usize,

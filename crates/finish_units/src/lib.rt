@@ -2,6 +2,8 @@
 //
 // Everything that is refused has been refused by then. A unit is put together once, checksummed once and written once; blocks that are new were free,
 // so that writing a unit leaves the old bytes of the units after it as they were.
+#![tactic(auto)]
+
 ghost use Rattle.std.specs.Prelude.{◌≡◌, true, false, ℕ, ◌+◌, ◌-◌, ◌*◌, ◌≤◌, ◌<◌, length, get_or, take};
 ghost use Rattle.rules.specs.Lists.{begun};
 ghost use Rattle.rules.specs.Sizes.{block_bytes, unit_blocks, unit_bytes, most_size};

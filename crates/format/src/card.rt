@@ -20,7 +20,7 @@ const CREATED_AT: usize = 32;
 const SPARE_AT: usize = 40;
 
 // A file's object, its size, the blocks that it has, the time of its last change, and the time at which it was made.
-#[derive(Drop)]
+#[derive(Clone, Copy)]
 pub struct Card {
     pub object: u64,
     pub size: u64,

@@ -23,7 +23,7 @@ const ZEROS_AT: usize = 29;
 const EXTENT_TAG: u8 = 3;
 
 // `count` blocks of the file of `object`, from its block `logical` on, stand at the device's blocks from `physical` on.
-#[derive(Drop)]
+#[derive(Clone, Copy)]
 pub struct Extent {
     pub object: u64,
     pub logical: u64,

@@ -11,7 +11,7 @@ pub const UUID_BYTES: usize = 16;
 
 // The store's uuid, its blocks, how many of them are reserved, the allocation group to begin in, and the numbers of records in the three
 // books.
-#[derive(Drop)]
+#[derive(Clone, Copy)]
 pub struct Head {
     pub uuid: [u8; UUID_BYTES],
     pub blocks: u64,

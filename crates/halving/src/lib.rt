@@ -1,6 +1,8 @@
 // The search by halves (binary search) in a book of records that begin with a key. In each round it looks at the one record in the middle of what is left,
 // and that record leaves the range: of n places at most half are left, so that the 1,048,575 that a book may have take at most 20 rounds. The object is
 // tested with the key, so that nothing is looked at again in the end. All of this holds for any book; what the answer means, for ordered ones.
+#![tactic(auto)]
+
 ghost use Rattle.std.specs.Prelude.{◌≡◌, ◌+◌, ◌*◌, ◌≤◌, eqb, length};
 ghost use Rattle.rules.specs.Bytes.{be, part};
 ghost use Rattle.rules.specs.Sizes.{most_places};
@@ -11,7 +13,7 @@ ghost use Rattle.halving.specs.Keys.{reaches, reached, owned_before};
 use format::key::NUMBER_AT;
 
 // Where a search ended: how many records it puts before the key or at it, whether the last of those is one of the object, and in how many rounds.
-#[derive(Drop)]
+#[derive(Clone, Copy)]
 pub struct Halved {
     pub place: usize,
     pub same: bool,
@@ -19,7 +21,7 @@ pub struct Halved {
 }
 
 // What one look at a record says: whether it stands before the key or at it, and whether it is one of the object.
-#[derive(Drop)]
+#[derive(Clone, Copy)]
 struct Seen {
     reached: bool,
     same: bool,

@@ -1,6 +1,8 @@
 // The extents of a stretch of a file, held in an array and lent as a slice, which is searched for the one that maps a block.
 //
 // An entry is 0 where no extent maps a block, and one more than its block on the device elsewhere.
+#![tactic(auto)]
+
 ghost use Rattle.std.specs.Prelude.{◌≡◌, ◌+◌, ◌^◌, ◌≤◌, ◌<◌, length, get_or, take};
 ghost use Rattle.held.specs.Held.{no_extent, OnDevice, HeldRight, entry_through, held_entry, Mapped};
 

@@ -2,6 +2,8 @@
 //
 // The caller has looked up the unit's slot and its blocks, and lends the tables of the checksum and its window. No byte is copied: the checksum is
 // fed from the image where the blocks stand, a run of adjoining ones at once.
+#![tactic(auto)]
+
 ghost use Rattle.std.specs.Prelude.{◌≡◌, true, List, [], ℕ, ◌+◌, ◌-◌, ◌*◌, ◌^◌, min, ◌≤◌, ◌<◌, eqb, length, take, drop, get_or};
 ghost use Rattle.rules.specs.Lists.{all, any, given, begun};
 ghost use Rattle.rules.specs.Sizes.{block_bytes, unit_blocks, unit_bytes};
@@ -17,7 +19,7 @@ ghost use Rattle.inspect.specs.Answer.{answer_of, refused_by, unit_number};
 ghost use Rattle.inspect.specs.Runs.{Backed, Run, backed_bytes, bytes_before};
 
 // What a unit that is read is: damaged, by the number of the refusal; a hole; or checked, its bytes right where they stand.
-#[derive(Drop)]
+#[derive(Clone, Copy)]
 pub enum Inspected {
     Damaged(u32),
     Hole,

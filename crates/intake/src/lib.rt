@@ -3,6 +3,8 @@
 // `intake_lengths` has the tests of refusal 1, `intake_books` and `intake_maps` those of refusal 2. Each takes one slice and a number, so that it can be asked
 // of parts of other buffers; those of refusal 2 may assume what refusal 1 found, those of the maps what was found of the books. The functions here join them,
 // with no assumption left: the calls behind `refused` may assume that it answered 0.
+#![tactic(auto)]
+
 ghost use Rattle.std.specs.Prelude.{◌≡◌, []};
 ghost use Rattle.rules.specs.Store.{lent};
 ghost use Rattle.rules.specs.Integrity.{rule_broken};

@@ -1,6 +1,8 @@
 // Refusal 2 on the books. Each book is walked once: a record is tested by itself and with the one before it, and what stands behind the last is
 // tested for zeros; then cards and extents are walked side by side. A record's test takes one slice and a place, a book's one slice and the number
 // of its records, so that they can be asked of parts of other buffers.
+#![tactic(auto)]
+
 ghost use Rattle.std.specs.Prelude.{◌≡◌, true, not, ◌+◌, ◌-◌, ◌*◌, ◌≤◌, ◌<◌, length};
 ghost use Rattle.rules.specs.Bytes.{part};
 ghost use Rattle.rules.specs.Lists.{ascending, begun};

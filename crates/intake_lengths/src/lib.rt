@@ -1,4 +1,6 @@
 // Refusal 1: the lengths of the lent buffers, and what the head says of them.
+#![tactic(auto)]
+
 ghost use Rattle.std.specs.Prelude.{◌≡◌, ◌+◌, ◌^◌, ◌<◌, eqb, length};
 ghost use Rattle.rules.specs.Head.{head_bytes, decode_head};
 ghost use Rattle.rules.specs.Map.{map_bytes};

@@ -1,5 +1,7 @@
 // Refusal 2's rules on the maps: mapped blocks are used, neither retired nor reserved; reserved ones are used and not retired; retired ones are used; and no
 // bit is set past the last block. By words of 64 bits; a wrong extent ends it, a wrong word does not.
+#![tactic(auto)]
+
 ghost use Rattle.std.specs.Prelude.{◌≡◌, true, not, ◌+◌, ◌*◌, ◌≤◌, ◌<◌, length};
 ghost use Rattle.rules.specs.Lists.{all};
 ghost use Rattle.rules.specs.Extent.{extent_bytes, decode_extent};

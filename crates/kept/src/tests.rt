@@ -12,7 +12,7 @@ use format::sizes::UNIT_BYTES;
 pub const UNIT: u64 = UNIT_BYTES as u64;
 
 // The caller's part of a unit: `count` of the caller's bytes, from `from` on, stand from `at` on in the unit.
-#[derive(Drop)]
+#[derive(Clone, Copy)]
 pub struct Part {
     pub from: usize,
     pub count: usize,

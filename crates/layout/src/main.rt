@@ -3,6 +3,8 @@
 //
 // The document leaves the uuid, the bytes and the times free: here the uuid is 16 sevens, the first write's bytes are ones, the second's twos, and every
 // call is lent 1,700,000,000 seconds and 0 nanoseconds.
+#![tactic(auto)]
+
 ghost use Rattle.std.specs.Prelude.{◌≡◌, ◌*◌, ◌≤◌, length};
 ghost use Rattle.rules.specs.Extent.{extent_bytes};
 ghost use Rattle.rules.specs.Store.{lent};

@@ -1,6 +1,8 @@
 // The bytes of many reads handed out into the pieces of one buffer. All reads were checked before: here blocks are only looked up and copied.
 //
 // The blocks that were looked up last stay in hand: reads of one unit, one after another, look it up once.
+#![tactic(auto)]
+
 ghost use Rattle.std.specs.Prelude.{◌≡◌, ◌+◌, ◌*◌, ◌/◌, ◌^◌, ◌≤◌, ◌<◌, length};
 ghost use Rattle.rules.specs.Sizes.{block_bytes, unit_blocks, most_blocks};
 ghost use Rattle.rules.specs.Triples.{triple_bytes, decode_triples, lengths_of};
@@ -15,7 +17,7 @@ use triples::TRIPLE_BYTES;
 const MOST_BLOCKS: usize = 272;
 
 // The units of the file of `object` from `first` on whose blocks are in hand; 0 units: none.
-#[derive(Drop)]
+#[derive(Clone, Copy)]
 struct Stretch {
     object: u64,
     first: u64,

@@ -2,6 +2,8 @@
 //
 // A walk goes from group to group and not from unit to unit. It compares the numbers of groups before it makes units of them: in a damaged book a group
 // may have any number, and 256 times that need not be one of 64 bits.
+#![tactic(auto)]
+
 ghost use Rattle.std.specs.Prelude.{◌≡◌, [], ◌∷◌, ◌+◌, ◌-◌, ◌*◌, ◌/◌, ◌%◌, ◌^◌, ◌≤◌, ◌<◌, min, ltb, length};
 ghost use Rattle.rules.specs.Lists.{if◌then◌else◌, given};
 ghost use Rattle.rules.specs.Sizes.{group_units};
@@ -20,7 +22,7 @@ pub const UNITS: u64 = GROUP_UNITS as u64;
 const NONE: u64 = 0xffff_ffff_ffff_ffff;
 
 // Where a walk stands: at a unit, and in the book at the first group that is not in front of the unit's.
-#[derive(Drop)]
+#[derive(Clone, Copy)]
 pub struct Position {
     pub unit: u64,
     pub place: usize,
@@ -28,7 +30,7 @@ pub struct Position {
 
 // A stretch that was found: its first unit, the first unit behind it, and where in the book the walk goes on. There is none where it starts at the walk's
 // end.
-#[derive(Drop)]
+#[derive(Clone, Copy)]
 pub struct Span {
     pub first: u64,
     pub end: u64,

@@ -1,5 +1,7 @@
 // What the tests and the benchmark call from Rust: functions of the lower crates, each under a name of its own. The archive of the library itself
 // does not have them.
+#![tactic(auto)]
+
 ghost use Rattle.std.specs.Prelude.{◌≡◌, length};
 ghost use Rattle.rules.specs.Bytes.{all_zero};
 ghost use Rattle.rules.specs.Crc32c.{crc32c};

@@ -1,6 +1,8 @@
 // The call read, refusals 1 and 2 past: the units that it touches checked, all of them before a byte is handed out, and its bytes handed out.
 //
 // `check_range` and `image::out::hand_out` are apart, so that a call of many reads can check them all before the first byte.
+#![tactic(auto)]
+
 ghost use Rattle.std.specs.Prelude.{◌≡◌, map, ◌+◌, ◌-◌, ◌*◌, ◌/◌, ◌%◌, min, ◌≤◌, ◌<◌, length};
 ghost use Rattle.rules.specs.Lists.{range, begun};
 ghost use Rattle.rules.specs.Sizes.{unit_blocks, unit_bytes, most_transfer};
@@ -29,7 +31,7 @@ const MOST_UNITS: usize = 17;
 const MOST_BLOCKS: usize = MOST_UNITS * UNIT_BLOCKS;
 
 // A read's answer: 0 and a count, or the number of its refusal and 0.
-#[derive(Drop)]
+#[derive(Clone, Copy)]
 pub struct Given {
     pub number: u32,
     pub count: usize,

@@ -2,6 +2,8 @@
 //
 // A unit is inspected where no read before has it, and the count of inspections goes up there and nowhere else; so it is the number of different units. What
 // a read touches is told by its triple and the size of its file, which is noted for each read.
+#![tactic(auto)]
+
 ghost use Rattle.std.specs.Prelude.{◌≡◌, true, ℕ, ◌+◌, ◌*◌, ◌/◌, ◌^◌, ◌≤◌, ◌<◌, length};
 ghost use Rattle.rules.specs.Lists.{if◌then◌else◌, any, range};
 ghost use Rattle.rules.specs.Sizes.{unit_bytes};
@@ -21,7 +23,7 @@ use format::sizes::{UNIT_BLOCKS, UNIT_BYTES};
 use triples::{MOST_TRIPLES, TRIPLE_BYTES};
 
 // What checking found: the number of a refusal, or 0, and how many units have been inspected by then.
-#[derive(Drop)]
+#[derive(Clone, Copy)]
 pub struct Checks {
     pub number: u32,
     pub made: u64,

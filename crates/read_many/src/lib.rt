@@ -1,4 +1,6 @@
 // The call of many reads, refusals 1 and 2 past: the list tested, all its reads checked, and only then their bytes handed out.
+#![tactic(auto)]
+
 ghost use Rattle.std.specs.Prelude.{◌≡◌, ◌/◌, ◌≤◌, length};
 ghost use Rattle.rules.specs.Triples.{triple_bytes, most_triples, decode_triples, lengths_of};
 ghost use Rattle.rules.specs.ReadMany.{reads_wrong};

@@ -2,6 +2,8 @@
 //
 // A plan stores nothing in the store: it says which blocks each unit keeps and which it is given. The new bytes and their checksums follow from
 // the volume and the change, and no refusal depends on them, so they are made where the plan is carried out.
+#![tactic(auto)]
+
 ghost use Rattle.std.specs.Prelude.{◌≡◌, Bool, true, false, List, ℕ, ◌+◌, ◌-◌, ◌*◌, ◌^◌, ◌≤◌, ◌<◌, length, take, get_or};
 ghost use Rattle.rules.specs.Bytes.{part};
 ghost use Rattle.rules.specs.Sizes.{unit_bytes, unit_blocks, most_blocks, most_allocated};
@@ -33,7 +35,7 @@ const MOST_ALLOCATED: u64 = 34359738367;
 
 // What is known of a unit's old bytes: a refusal by its number; a hole that no written byte falls into; nothing, for they are not read or there are
 // none; or that they were read and are right.
-#[derive(Drop)]
+#[derive(Clone, Copy)]
 pub enum Old {
     Refused(u32),
     Untouched,
@@ -42,7 +44,7 @@ pub enum Old {
 }
 
 // A change to a file, without its bytes: the sizes before and after, and where the written bytes stand.
-#[derive(Drop)]
+#[derive(Clone, Copy)]
 pub struct Change {
     pub old_size: u64,
     pub new_size: u64,
@@ -51,7 +53,7 @@ pub struct Change {
 }
 
 // What passes from unit to unit: the hint, the card's count, and the cursors of the blocks taken. The blocks themselves are set in the map.
-#[derive(Drop)]
+#[derive(Clone, Copy)]
 pub struct Progress {
     pub hint: u64,
     pub allocated: u64,
@@ -59,7 +61,7 @@ pub struct Progress {
 }
 
 // The blocks of a unit: whether there were enough, how many were taken, and the hint and the cursors after it.
-#[derive(Drop)]
+#[derive(Clone, Copy)]
 pub struct Given {
     pub enough: bool,
     pub count: usize,
@@ -68,7 +70,7 @@ pub struct Given {
 }
 
 // The answer to one unit: the number of its refusal or 0, whether it is rewritten (an untouched hole is not), and what the next one finds.
-#[derive(Drop)]
+#[derive(Clone, Copy)]
 pub struct UnitPlan {
     pub number: u32,
     pub rewritten: bool,
@@ -76,7 +78,7 @@ pub struct UnitPlan {
 }
 
 // The answer to all: the number of the first refusal or 0, how many units at the front are untouched holes, and the hint and the count after them.
-#[derive(Drop)]
+#[derive(Clone, Copy)]
 pub struct Plan {
     pub number: u32,
     pub skip: usize,

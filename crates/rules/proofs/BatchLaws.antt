@@ -53,7 +53,7 @@ tried (c ∷ cs) s next = go c.holds refl (tried cs s next)
     go false e k = later e k
 
 -- what every case that holds gives has, and what the call goes on with has where none holds
-pub unless-cases : (P : Result → Type 0) {cases : List Case} (s : Store) (next : Result)
+pub unless-cases : (P : Result → Type 0) (s : Store) (next : Result) {cases : List Case}
     → Each (λ c. c.holds ≡ true → P (batch_gives (number_of c.refusal) 0 s)) cases → (NoneHolds cases → P next) → P (unless cases s next)
 unfolding unless
 unless-cases P s next each_none h = h tt

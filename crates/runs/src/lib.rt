@@ -6,6 +6,8 @@
 //
 // Whether there are sixteen at all is told before that, from each sixteen bits of the map and the next: a whole unit wants so many, and where the map has
 // only shorter runs all of it has to be looked at.
+#![tactic(auto)]
+
 ghost use Rattle.std.specs.Prelude.{◌≡◌, ◌+◌, ◌*◌, ◌/◌, ◌%◌, ◌^◌, ◌<◌, ◌≤◌, ◌||◌, length};
 ghost use Rattle.runs.specs.Runs.{Starts, PastSet, Half, Meets, AnyMeets, Passed, Lowest};
 

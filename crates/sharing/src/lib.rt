@@ -1,6 +1,8 @@
 // Whether the extents map a block of the device at two places.
 //
 // The blocks of one extent after another are looked up in a map of those that were seen, and marked there. One that is marked already ends it.
+#![tactic(auto)]
+
 ghost use Rattle.std.specs.Prelude.{◌≡◌, true, ◌+◌, ◌-◌, ◌*◌, ◌≤◌, leb, length, replicate};
 ghost use Rattle.rules.specs.Lists.{all};
 ghost use Rattle.rules.specs.Sizes.{most_blocks};

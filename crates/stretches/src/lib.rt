@@ -2,6 +2,8 @@
 //
 // The book of groups is walked twice: the pairs are counted before the first is written, as the output stays as it was lent where it has no place for
 // all of them.
+#![tactic(auto)]
+
 ghost use Rattle.std.specs.Prelude.{◌≡◌, ◌+◌, ◌-◌, ◌*◌, ◌^◌, ◌≤◌, ◌<◌, length, drop};
 ghost use mathlib.Core.List.{◌++◌, flat_map};
 ghost use Rattle.rules.specs.Lists.{begun};
@@ -28,7 +30,7 @@ pub const STRETCH_BYTES: usize = 16;
 const UNITS_AT: usize = 8;
 
 // The list's answer: 0 and the number of pairs, or the number of its refusal and 0.
-#[derive(Drop)]
+#[derive(Clone, Copy)]
 pub struct Listed {
     pub number: u32,
     pub count: u64,

@@ -1,4 +1,6 @@
 // A lent list of triples (object, offset, length), each number in 8 bytes, little-endian: the tests of the list, and a triple of it.
+#![tactic(auto)]
+
 ghost use Rattle.std.specs.Prelude.{◌≡◌, not, ◌+◌, ◌*◌, ◌≤◌, eqb, ltb, length};
 ghost use Rattle.rules.specs.Triples.{triple_bytes, decode_triples, list_wrong, lengths_of};
 ghost use Rattle.rules.specs.Batch.{length_over};
@@ -19,7 +21,7 @@ const OFFSET_AT: usize = 8;
 const LEN_AT: usize = 16;
 
 // `len` bytes of the file of `object` from `offset` on.
-#[derive(Drop)]
+#[derive(Clone, Copy)]
 pub struct Triple {
     pub object: u64,
     pub offset: u64,

@@ -1,6 +1,8 @@
 // Writes the vectors of the layers below, for comparison with `stdout`: RFC 3720's CRC-32C values (B.4) and the check value of
 // "123456789", a unit's checksum, numbers in both byte orders, the packed fields of a head and a card, and a map of bits.
 // `stdout` was written from the documents.
+#![tactic(auto)]
+
 use format::card::CARD_BYTES;
 use libc::STDOUT_FILENO;
 

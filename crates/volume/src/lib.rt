@@ -5,6 +5,8 @@
 // does so for its own refusals, 1, 2 and 18; stopped by one of its writes it gives that refusal's number with the count of the writes before it.
 //
 // An export joins two parts: the tests, over the lent buffers as they are, and an inner call, which may take for granted that the tests passed.
+#![tactic(auto)]
+
 ghost use Rattle.std.specs.Prelude.{◌≡◌, []};
 ghost use Rattle.rules.specs.Store.{lent};
 ghost use Rattle.rules.specs.Refusal.{result};
@@ -21,7 +23,7 @@ use write::{ARCHIVE_RUNS, MOST_RUNS};
 
 // A call's answer: 0 and a count, or the number of its refusal and 0.
 #[repr(C)]
-#[derive(Drop)]
+#[derive(Clone, Copy)]
 pub struct Answer {
     pub number: u32,
     pub count: u64,

@@ -2,6 +2,8 @@
 //
 // `range` has what is done to a range of bytes.
 // A leaf takes the bytes themselves and puts them together in Horner's form, which compiles to one load.
+#![tactic(auto)]
+
 pub mod range;
 
 ghost use Rattle.std.specs.Prelude.{◌≡◌, ◌∷◌, [], ◌+◌, ◌≤◌, length};

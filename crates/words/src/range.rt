@@ -7,7 +7,7 @@ pub fn copy(s: &mut [u8], at: usize, x: &[u8])
     requires { at + length x.now ≤ length s.old }
     ensures { s.new ≡ patch s.old at x.now }
 {
-    bytes::copy(x, &mut s[at..]);
+    s[at..at + x.len()].copy_from_slice(x);
 }
 
 // The `n` bytes of `x` from `from` on into `s` from `at` on.

@@ -8,7 +8,7 @@ use book::Found;
 use format::card::CARD_BYTES;
 
 // Whether there is such a file, and if so its size and the blocks that its card counts.
-#[derive(Drop)]
+#[derive(Clone, Copy)]
 pub struct File {
     pub known: bool,
     pub size: u64,

@@ -1,4 +1,6 @@
 // The calls write and grow, past refusals 1 and 2: their own tests, and the change that they make.
+#![tactic(auto)]
+
 pub mod find;
 pub mod grow;
 pub mod write;
@@ -10,7 +12,7 @@ pub const MOST_RUNS: usize = 4;
 pub const ARCHIVE_RUNS: usize = 2;
 
 // What a call answers: 0 and a count, or the number of its refusal and 0.
-#[derive(Drop)]
+#[derive(Clone, Copy)]
 pub struct Done {
     pub number: u32,
     pub count: u64,

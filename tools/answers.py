@@ -1,0 +1,327 @@
+#!/usr/bin/env python3
+"""Turns a crate's proofs of the older form, Proof.antt, into Invariants.antt and Answers.antt.
+
+    tools/answers.py CRATE [FUNCTION..]
+
+Run at the top of the repository, once a crate, when the crates below it are proved and its own source checks. The
+names come from `rt check --generated DIR --old-names`. An answer that was only the search is left out, as the check
+tries the search itself; one that cannot be turned keeps a line `-- LEFT:` which says why.
+"""
+import glob
+import json
+import os
+import re
+import subprocess
+import sys
+import tempfile
+
+NAME = r"[^\s(){}\[\],;.:«»\"`@λ]+"
+
+
+def norm(name):
+    name = name.replace('_', '-')
+    name = re.sub(r'^overflow-', '', name)
+    name = re.sub(r'^slice-bounds-', 'part-', name)
+    return name
+
+
+def old_names(crate):
+    folder = tempfile.mkdtemp()
+    out = subprocess.run(['rt', 'check', '--generated', folder, '--old-names'], cwd=f'crates/{crate}',
+                         capture_output=True, text=True)
+    path = f'{folder}/names.json'
+    if not os.path.exists(path):
+        sys.exit('no names:\n' + out.stdout[-3000:] + out.stderr[-2000:])
+    return json.load(open(path, encoding='utf-8'))
+
+
+class Function:
+    def __init__(self, crate, folder, entry):
+        self.crate, self.folder, self.entry = crate, folder, entry
+        self.goals = {}
+        self.left = []
+        self.parent = {p[0]: p[1] for p in entry['places']}
+        self.step = {p[0]: p[2] for p in entry['places']}
+        self.index = {p[0]: i for i, p in enumerate(entry['places'])}
+        for (old, new), (at, _) in zip(entry['needs'], entry['asked_at']):
+            self.goals.setdefault(norm(old), (new, at))
+        self.settled = {norm(s) for s in entry['settled']}
+        self.loops = {norm(l[0][0]): (l, ch) for l, ch in zip(entry['loops'], entry['changed'])}
+
+    def say(self, text):
+        self.left.append(text)
+
+    # ---- paths
+
+    def nested(self, rest, fields):
+        """`.1.1.0.x` over n clauses, the last not paired, as `.name.x`."""
+        n = len(fields)
+        i = 0
+        while i < n - 1 and rest and rest[0] == '1':
+            rest = rest[1:]
+            i += 1
+        if i < n - 1:
+            if not rest or rest[0] != '0':
+                return None
+            rest = rest[1:]
+        return [fields[i]] + rest
+
+    def path(self, at, fields):
+        """What stands behind `c` in an answer asked at `at`."""
+        place = at
+        while fields and fields[0] == 'before':
+            place = self.parent.get(place) if place else None
+            fields = fields[1:]
+        if not fields:
+            return None, place
+        head, rest = fields[0], fields[1:]
+        if head in ('args', 'ranges'):
+            return [head] + rest, place
+        if head in ('requires', 'pre'):
+            pre = self.entry['pre']
+            if pre and len(pre['fields']) > 1:
+                if not rest:
+                    self.say('requires whole')
+                    return ['requires'], place
+                got = self.nested(rest, pre['fields'])
+                if got is None:
+                    self.say('requires: ' + '.'.join(rest))
+                    return ['requires'] + rest, place
+                return ['requires'] + got, place
+            return ['requires'] + rest, place
+        # the step of this place, or of one above it
+        p = place
+        while p is not None and norm(self.step[p][0]) != norm(head):
+            p = self.parent[p]
+        if p is None:
+            p = next((q for q in self.step if norm(self.step[q][0]) == norm(head)), None)
+        if p is None:
+            self.say('no step ' + head)
+            return [head] + rest, place
+        new = self.step[p][1]
+        i = self.index[p]
+        if rest[:1] == ['given']:
+            variables = [v for v, s in sum(self.entry['typed'], []) if norm(s) == norm(head)]
+            if variables:
+                return ['type_inv', variables[0]] + rest[1:], place
+            if re.match(r'(shared-)?slice-known', norm(head)):
+                self.say('type of ' + head)
+        if rest[:1] == ['ensures']:
+            clauses = self.entry['clauses'][i]
+            if clauses and isinstance(clauses, dict) and len(clauses.get('fields', [])) > 1:
+                if len(rest) == 1:
+                    self.say(f'ensures of {new} whole: {clauses["fields"]}')
+                else:
+                    got = self.nested(rest[1:], clauses['fields'])
+                    if got is None:
+                        self.say(f'ensures of {new}: {clauses["fields"]}')
+                    else:
+                        rest = ['ensures'] + got
+            elif clauses:
+                self.say(f'clauses of {new}: {json.dumps(clauses)[:200]}')
+        if rest[:1] == ['type-inv']:
+            rest = ['type_inv'] + rest[1:]
+        if rest[:1] in (['auto'], ['new']) and rest[1:2] and rest[1][0] in '01':
+            self.say(f'{new}.{".".join(rest)}')
+        return [new] + rest, place
+
+    def paths(self, body, at):
+        def one(m):
+            fields = m.group(2).split('.')[1:]
+            got, _ = self.path(at, fields)
+            if got is None:
+                return m.group(1)
+            return m.group(1) + ''.join('.' + f for f in got)
+        body = re.sub(r"(?<![\w'\-.])(c)((?:\.[\w'\-₀-₉]+)+)", one, body)
+        # a name for the requires, or for a call's ensures
+        for m in list(re.finditer(r'let (\w+) = c\.requires in', body)):
+            pre = self.entry['pre']
+            if pre and len(pre['fields']) > 1:
+                v = m.group(1)
+
+                def two(k):
+                    got = self.nested(k.group(1).split('.')[1:], pre['fields'])
+                    return v + ''.join('.' + f for f in got) if got else k.group(0)
+                body = re.sub(r"(?<![\w'\-.])" + v + r"((?:\.[\w'\-₀-₉]+)+)", two, body)
+        return body
+
+    # ---- invariants
+
+    def invariant(self, block):
+        """The block of an invariant or a measure, or None."""
+        head = block[0]
+        m = re.match(r'abbrev (invariant|decreases)-(' + NAME + r') : tie\.\S+', head)
+        kind, loop = m.group(1), m.group(2)
+        if norm(loop) not in self.loops:
+            self.say(f'no loop {loop}')
+            return '\n'.join(block)
+        (names, locals_), changed = self.loops[norm(loop)]
+        new = names[1]
+        text = '\n'.join(block[1:])
+        m = re.match(r'\S+((?:\s+' + NAME + r')*)\s*=\s*', text)
+        args = m.group(1).split()
+        body = text[m.end():]
+        want = len(locals_) + sum(changed)
+        if len(args) != want:
+            self.say(f'invariant {loop}: {len(args)} names for {locals_} {changed}')
+            return '\n'.join(block)
+        mapping = {}
+        for a, local, ch in zip(args, locals_, changed):
+            mapping[a] = 'l.initial.' + local if ch else 'l.' + local
+        rest = args[len(locals_):]
+        for a, local in zip(rest, [n for n, ch in zip(locals_, changed) if ch]):
+            mapping[a] = 'l.' + local
+        for m in re.finditer(r'λ ([^.]*)\.', body):
+            for b in re.findall(NAME, m.group(1)):
+                if b in mapping:
+                    self.say(f'invariant {loop}: λ {b}')
+        for b in re.findall(r'let (' + NAME + r') ', body):
+            if b in mapping:
+                self.say(f'invariant {loop}: let {b}')
+        body = re.sub(r"(?<![\w'\-.₀])(" + NAME + r")", lambda m: mapping.get(m.group(1), m.group(1)), body)
+        sep = '\n    ' if '\n' in text[:len(text) - len(body)] or '\n' in body or len(body) > 90 else ' '
+        return f'abbrev pub {kind}-{new} : goal.{kind}-{new}\n{kind}-{new} l ={sep}{body.strip()}'
+
+    # ---- the file
+
+    def turn(self):
+        path = f'{self.folder}/Proof.antt'
+        text = open(path, encoding='utf-8').read()
+        lines = text.rstrip('\n').split('\n')
+        head, blocks, uses = [], [], []
+        i = 0
+        while i < len(lines) and (lines[i].startswith('--') or not lines[i].strip()):
+            head.append(lines[i])
+            i += 1
+        body = lines[i:]
+        # blocks: a declaration with its comments
+        cur, pending = None, []
+        for line in body:
+            if line.startswith('use ') or line.startswith('pub use '):
+                uses.append(line)
+                continue
+            if re.match(r'-- src/\S+:\d+:\d+$', line):
+                continue
+            if not line.strip():
+                if cur is not None:
+                    cur.append('')
+                continue
+            if line.startswith('--'):
+                pending.append(line)
+                continue
+            m = re.match(r'(?:abbrev |unfoldable |pub |pub abbrev |abbrev pub )*(' + NAME + r')\s*(?:\{ℓ[^}]*\} )?:(?:\s|$)', line)
+            starts = m or re.match(r'(module|data|record|pub data|pub record|open)\b', line)
+            if starts:
+                cur = pending + [line]
+                pending = []
+                blocks.append(cur)
+            else:
+                if cur is None:
+                    cur = []
+                    blocks.append(cur)
+                cur.extend(pending)
+                pending = []
+                cur.append(line)
+        spec = os.path.basename(self.folder) + '_spec'
+        names = {}      # old answer name -> goal
+        invs, answers = [], []
+        for block in blocks:
+            while block and not block[-1].strip():
+                block.pop()
+            k = next(j for j, l in enumerate(block) if not l.startswith('--'))
+            comments, code = block[:k], block[k:]
+            sig = code[0]
+            if re.match(r'pub \S+ : \{M : Type 1\} → statement', sig) or sig.startswith('pub ' + spec):
+                continue
+            m = re.match(r'abbrev (invariant|decreases)-', sig)
+            if m and 'tie.' in sig:
+                invs.append('\n'.join(comments + [self.invariant(code)]))
+                continue
+            m = re.match(r'(' + NAME + r') : tie\.Need-(' + NAME + r')(.*)$', sig)
+            if not m:
+                answers.append('\n'.join(comments + code))
+                if 'tie.' in '\n'.join(code) or 'lts.' in '\n'.join(code):
+                    self.say('a lemma that names tie: ' + sig[:80])
+                continue
+            old, need = m.group(1), norm(m.group(2))
+            alias = {'loop-holds': 'loop-init', 'loop-again': 'loop-preserved', 'loop-less': 'loop-smaller'}
+            need = alias.get(need, need)
+            text = '\n'.join(code[1:])
+            m = re.match(r'((?:unfolding [^\n]*\n)?)(' + re.escape(old) + r')((?:\s+' + NAME + r')*)\s*=\s*(.*)$', text, re.S)
+            if m and m.group(4).strip() == 'search rules' and not m.group(1):
+                continue
+            if need in self.settled:
+                continue
+            if need not in self.goals:
+                self.say(f'no goal for {old} : {need}')
+                answers.append('-- LEFT: no goal ' + need + '\n' + '\n'.join('-- ' + l for l in code))
+                continue
+            goal, at = self.goals[need]
+            if not m:
+                self.say(f'clauses of {old}')
+                answers.append('\n'.join(comments + [f'-- LEFT', f'pub {goal} : goal.{goal}'] + code[1:]))
+                continue
+            params = [p for p in m.group(3).split()]
+            body = self.paths(m.group(4), at)
+            if len(params) > 1 and any(re.search(r"(?<![\w'\-])" + re.escape(p) + r"(?![\w'\-])", body) for p in params[1:]):
+                self.say(f'{old} uses {params[1:]}')
+            sep = '\n    ' if '\n' in body else ' '
+            answers.append('\n'.join(comments + [f'pub {goal} : goal.{goal}', f'{m.group(1)}{goal} {params[0] if params else "c"} ={sep}{body}']))
+        self.write(path, head, uses, invs, answers)
+
+    def write(self, path, head, uses, invs, answers):
+        rel = self.folder.split('/proofs/')[1].replace('/', '.')
+        module = f'Rattle.{self.crate}.proofs.{rel}'
+        keep = [u for u in uses if not re.search(r'\.(Statement|Tie|Reads|Lts)(\.| as |$)', u) or not u.startswith('use Rattle')]
+        keep = [u for u in keep if not re.match(r'use \S+\.(Tie|Reads|Lts) as', u)]
+
+        def used(text):
+            out = []
+            for u in keep:
+                m = re.match(r'(use \S+\.)\{(.*)\}$', u)
+                if not m:
+                    out.append(u)
+                    continue
+                names = [n.strip() for n in m.group(2).split(',')]
+                here = [n for n in names if self.mentions(text, n.split(' as ')[-1])]
+                if here:
+                    out.append(m.group(1) + '{' + ', '.join(here) + '}')
+            return out
+        for name, module_name, parts in (('Invariants', 'Given', invs), ('Answers', 'Goals', answers)):
+            if not parts:
+                continue
+            text = '\n\n'.join(parts)
+            lines = used(text) + [f'use {module}.{module_name} as goal']
+            top = head if (name == 'Invariants' or not invs) else []
+            open(f'{self.folder}/{name}.antt', 'w', encoding='utf-8').write(
+                '\n'.join(top + lines) + '\n\n' + text + '\n')
+        os.remove(path)
+        if self.left:
+            print(f'{self.folder}:')
+            for line in self.left:
+                print('   ', line)
+
+    @staticmethod
+    def mentions(text, name):
+        if '◌' in name:
+            parts = [p for p in name.split('◌') if p]
+            return all(p in text for p in parts)
+        return re.search(r"(?<![\w'\-])" + re.escape(name) + r"(?![\w'\-])", text) is not None
+
+
+def main():
+    crate, only = sys.argv[1], sys.argv[2:]
+    names = old_names(crate)
+    for key, entry in names.items():
+        if not key.endswith('.Lts') or not key.startswith(f'Rattle-{crate}-proofs.'):
+            continue
+        rel = key[len(f'Rattle-{crate}-proofs.'):-len('.Lts')]
+        folder = f'crates/{crate}/proofs/' + rel.replace('.', '/')
+        if only and os.path.basename(folder) not in only:
+            continue
+        if os.path.exists(f'{folder}/Proof.antt') and 'tie.' in open(f'{folder}/Proof.antt', encoding='utf-8').read():
+            Function(crate, folder, entry).turn()
+
+
+if __name__ == '__main__':
+    main()
