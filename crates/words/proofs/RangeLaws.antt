@@ -111,12 +111,11 @@ zeros-more s a i x q l h =
 
 -- ---- a copy through a part of the slice that starts at its place
 
-pub copied : (s x u : List ℕ) (at : ℕ) → u ≡ take (length x) x ++ drop (length x) (take (length s - at) (drop at s)) → at ≤ length s → put_mid at (length s - at) s u ≡ patch s at x
+pub copied : (s x u : List ℕ) (at : ℕ) → u ≡ x → put_mid at (at + length x - at) s u ≡ patch s at x
 unfolding patch
-copied s x u at e h =
-    let w : take (length s - at) (drop at s) ≡ drop at s = take_all (length s - at) (drop at s) (simp length-drop (omega arith)) in
-    let z : post_of at (length s - at) s ≡ [] = Post-is at (length s) s h ∙ drop-length s in
-    rw (z, append-nil u, e, w, take-length x, drop-drop (length x) at s, ← append_assoc (take at s) x (drop (at + length x) s)) refl
+copied s x u at e =
+    let w : at + length x - at ≡ length x = omega arith in
+    rw (w, e, drop-drop (length x) at s) refl
 
 -- a copy of a part of another slice
 pub copied-part : (s x u : List ℕ) (at from n : ℕ) → u ≡ patch s at (take (from + n - from) (drop from x)) → u ≡ patch s at (part from n x)
