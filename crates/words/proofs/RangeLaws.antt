@@ -115,7 +115,7 @@ pub copied : (s x u : List ℕ) (at : ℕ) → u ≡ x → put_mid at (at + leng
 unfolding patch
 copied s x u at e =
     let w : at + length x - at ≡ length x = omega arith in
-    rw (w, e, drop-drop (length x) at s) refl
+    rw (w, e, drop-drop (length x) at s, ← append_assoc (take at s) x (drop (at + length x) s)) refl
 
 -- a copy of a part of another slice
 pub copied-part : (s x u : List ℕ) (at from n : ℕ) → u ≡ patch s at (take (from + n - from) (drop from x)) → u ≡ patch s at (part from n x)
