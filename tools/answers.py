@@ -19,7 +19,7 @@ NAME = r"[^\s(){}\[\],;.:«»\"`@λ]+"
 
 
 def norm(name):
-    name = name.replace('_', '-')
+    name = name.replace('_', '-').lower()
     name = re.sub(r'^overflow-', '', name)
     name = re.sub(r'^slice-bounds-', 'part-', name)
     return name
@@ -40,6 +40,7 @@ class Function:
         self.crate, self.folder, self.entry = crate, folder, entry
         self.goals = {}
         self.left = []
+        self.more = set()
         self.parent = {p[0]: p[1] for p in entry['places']}
         self.step = {p[0]: p[2] for p in entry['places']}
         self.index = {p[0]: i for i, p in enumerate(entry['places'])}
@@ -126,12 +127,21 @@ class Function:
         return [new] + rest, place
 
     def paths(self, body, at):
+        # that each number of a slice fits its type: the search finds it
+        known = r"λ k\. \(c(?:\.[\w'\-]+)*\.(?:shared-|shared_)?slice[-_]known[\w\-]*\.given k\)\.fits"
+        body = re.sub(r'\(' + known + r'\)', '(search rules)', body)
+        body = re.sub(known, 'search rules', body)
         def one(m):
             fields = m.group(2).split('.')[1:]
             got, _ = self.path(at, fields)
             if got is None:
                 return m.group(1)
-            return m.group(1) + ''.join('.' + f for f in got)
+            text = m.group(1) + ''.join('.' + f for f in got)
+            if got[0].startswith('if-not-') and got[1:] in (['true'], ['false']):
+                # today's fact speaks of the value itself
+                self.more.update({'use mathlib.Core.Path.{ap}', 'use mathlib.Core.Bool.{not}'})
+                return f'(ap not {text})'
+            return text
         body = re.sub(r"(?<![\w'\-.])(c)((?:\.[\w'\-₀-₉]+)+)", one, body)
         # a name for the requires, or for a call's ensures
         for m in list(re.finditer(r'let (\w+) = c\.requires in', body)):
@@ -291,7 +301,11 @@ class Function:
             if not parts:
                 continue
             text = '\n\n'.join(parts)
-            lines = used(text) + [f'use {module}.{module_name} as goal']
+            lines = used(text)
+            for u in sorted(self.more if name == 'Answers' else ()):
+                if not any(re.search(r'[{ ]' + u[u.index('{') + 1:-1] + '[,}]', x) for x in lines):
+                    lines.append(u)
+            lines.append(f'use {module}.{module_name} as goal')
             top = head if (name == 'Invariants' or not invs) else []
             open(f'{self.folder}/{name}.antt', 'w', encoding='utf-8').write(
                 '\n'.join(top + lines) + '\n\n' + text + '\n')
