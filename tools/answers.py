@@ -35,6 +35,19 @@ def old_names(crate):
     return json.load(open(path, encoding='utf-8'))
 
 
+def lent_by(callee, kind):
+    """The parameters of a function that are `&mut`: slices alone keep their length."""
+    if not callee:
+        return []
+    parts = callee.split('::')
+    for path in sorted(glob.glob(f'crates/{parts[0]}/src/**/*.rt', recursive=True)):
+        m = re.search(r'\bfn ' + parts[-1] + r'\b[^(]*\(([^{]*?)\)\s*(?:->|requires|ensures|\{|where)', open(path, encoding='utf-8').read(), re.S)
+        if m:
+            slices = r'(\w+):\s*&mut \[' if kind == 'auto' else r'(\w+):\s*&mut '
+            return re.findall(slices, m.group(1))
+    return []
+
+
 class Function:
     def __init__(self, crate, folder, entry):
         self.crate, self.folder, self.entry = crate, folder, entry
@@ -90,12 +103,22 @@ class Function:
                     return ['requires'] + rest, place
                 return ['requires'] + got, place
             return ['requires'] + rest, place
+        # what an arm binds, and that the value is its variant
+        q = place
+        while q is not None:
+            arm = self.entry['arms'][self.index[q]]
+            for field, step, old in (arm[2] if arm else []):
+                if old and norm(step) == norm(head) and rest[:len(old)] == old:
+                    return [arm[0], field] + rest[len(old):], place
+            q = self.parent[q]
         # the step of this place, or of one above it
         p = place
         while p is not None and norm(self.step[p][0]) != norm(head):
             p = self.parent[p]
         if p is None:
             p = next((q for q in self.step if norm(self.step[q][0]) == norm(head)), None)
+        if p is None and head.endswith(('_lem', '-lem')):
+            return self.path(place, [head[:-4]] + rest)
         if p is None:
             self.say('no step ' + head)
             return [head] + rest, place
@@ -118,10 +141,17 @@ class Function:
                         self.say(f'ensures of {new}: {clauses["fields"]}')
                     else:
                         rest = ['ensures'] + got
+            elif clauses and isinstance(clauses, dict) and len(clauses.get('fields', [])) == 1:
+                rest = ['ensures', clauses['fields'][0]] + rest[1:]
             elif clauses:
                 self.say(f'clauses of {new}: {json.dumps(clauses)[:200]}')
         if rest[:1] == ['type-inv']:
             rest = ['type_inv'] + rest[1:]
+        lent = lent_by(self.entry['places'][i][3], rest[0]) if rest[:1] in (['auto'], ['new']) else []
+        if lent and rest[1:] and rest[1] in ('0', '1') or len(lent) == 1 and rest[1:] != lent:
+            got = self.nested(rest[1:], lent) if len(lent) > 1 else lent + [r for r in rest[1:] if r != '0']
+            if got:
+                return [new, rest[0]] + got, place
         if rest[:1] in (['auto'], ['new']) and rest[1:2] and rest[1][0] in '01':
             self.say(f'{new}.{".".join(rest)}')
         return [new] + rest, place
@@ -131,6 +161,8 @@ class Function:
         known = r"λ k\. \(c(?:\.[\w'\-]+)*\.(?:shared-|shared_)?slice[-_]known[\w\-]*\.given k\)\.fits"
         body = re.sub(r'\(' + known + r'\)', '(search rules)', body)
         body = re.sub(known, 'search rules', body)
+        body = re.sub(r"\(c(?:\.[\w'\-]+)*\.(?:shared-|shared_)?slice[-_]known[\w\-]*\.given c[\w.\-']+\)\.fits", 'XX', body)
+        body = body.replace('(XX)', 'XX').replace('XX', '(search rules)')
         def one(m):
             fields = m.group(2).split('.')[1:]
             got, _ = self.path(at, fields)
