@@ -48,6 +48,90 @@ def lent_by(callee, kind):
     return []
 
 
+def clauses_of(callee, kind):
+    """The names of a function's clauses of a kind, where it has two or more."""
+    parts = callee.split('::')
+    for path in sorted(glob.glob(f'crates/{parts[0]}/src/**/*.rt', recursive=True)):
+        text = open(path, encoding='utf-8').read()
+        m = re.search(r'^\s*(?:pub )?(?:extern "C" )?fn ' + parts[-1] + r'\b', text, re.M)
+        if m:
+            head = re.split(r'^\s*\{\s*$', text[m.end():], maxsplit=1, flags=re.M)[0]
+            names = re.findall(r'^\s*' + kind + r' (\w+) \{', head, re.M)
+            return names if len(names) > 1 else []
+    return []
+
+
+def split_tuple(text):
+    """The parts of a tuple in its parentheses, or None."""
+    text = text.strip()
+    if not text.startswith('('):
+        return None
+    depth, parts, start = 0, [], 1
+    for i, ch in enumerate(text):
+        if ch in '([{':
+            depth += 1
+        elif ch in ')]}':
+            depth -= 1
+            if depth == 0:
+                if i != len(text) - 1:
+                    return None
+                parts.append(text[start:i])
+        elif ch == ',' and depth == 1:
+            parts.append(text[start:i])
+            start = i + 1
+    return [p.strip() for p in parts] if len(parts) > 1 else None
+
+
+def lets(body):
+    """The lets before an expression, and it."""
+    rest, head = body, ''
+    while re.match(r'\s*let\b', rest):
+        depth, i, opened = 0, 0, 0
+        for m in re.finditer(r'[(\[{]|[)\]}]|(?<![\w\'\-.])(?:let|in)(?![\w\'\-])', rest):
+            t = m.group(0)
+            if t in '([{':
+                depth += 1
+            elif t in ')]}':
+                depth -= 1
+            elif t == 'let':
+                opened += 1
+            elif t == 'in':
+                opened -= 1
+                if depth == 0 and opened == 0:
+                    i = m.end()
+                    break
+        if not i:
+            break
+        head, rest = head + rest[:i], rest[i:]
+    return head, rest
+
+
+def as_record(body, names):
+    """An answer of nested pairs as a record of clauses; None where it is not of that shape."""
+    head, rest = lets(body)
+    found = []
+    for k, name in enumerate(names):
+        if k == len(names) - 1:
+            found.append((name, rest.strip()))
+            break
+        parts = split_tuple(rest)
+        if parts is None:
+            e = rest.strip()
+            if re.match(r'(search|omega|grind|elim|rw|simp|λ|cc)\b', e):
+                return None
+            e = e if re.match(r'^[\w.\'\-]+$', e) else f'({e})'
+            for j in range(k, len(names)):
+                tail = '.1' * (j - k) + ('.0' if j < len(names) - 1 else '')
+                found.append((names[j], e + tail))
+            break
+        found.append((name, parts[0]))
+        rest = parts[1] if len(parts) == 2 else '(' + ', '.join(parts[1:]) + ')'
+    fields = '; '.join(f'{n} = {e}' for n, e in found)
+    gap = '' if not head or head.endswith('\n') else ' '
+    m = re.match(r'\s*', lets(body)[1])
+    return head + (m.group(0) if head else '') + f'record {{ {fields} }}'
+
+
 class Function:
     def __init__(self, crate, folder, entry):
         self.crate, self.folder, self.entry = crate, folder, entry
@@ -307,6 +391,19 @@ class Function:
             body = self.paths(m.group(4), at)
             if len(params) > 1 and any(re.search(r"(?<![\w'\-])" + re.escape(p) + r"(?![\w'\-])", body) for p in params[1:]):
                 self.say(f'{old} uses {params[1:]}')
+            clauses = []
+            if re.match(r'returns(-|$)', goal):
+                clauses = clauses_of(f'{self.crate}::{os.path.basename(self.folder)}', 'ensures')
+            elif re.search(r'-requires(-|$)', goal):
+                base = goal[:goal.index('-requires')]
+                callee = next((c for c in self.entry['params'] if re.match(re.escape(c.split('::')[-1]) + r'(-|$)', base)), None)
+                clauses = clauses_of(callee, 'requires') if callee else []
+            if clauses:
+                new_body = as_record(body, clauses)
+                if new_body is None:
+                    self.say(f'{goal}: {clauses} in one')
+                else:
+                    body = new_body
             sep = '\n    ' if '\n' in body else ' '
             answers.append('\n'.join(comments + [f'pub {goal} : goal.{goal}', f'{m.group(1)}{goal} {params[0] if params else "c"} ={sep}{body}']))
         self.write(path, head, uses, invs, answers)
