@@ -267,7 +267,7 @@ each-bits_from map blocks hint past i =
 each-inserts : (P : ℕ → Type 0) {ys zs : List ℕ} → Each P ys → Each P zs → Each P (inserts ys zs)
 unfolding inserts
 each-inserts P {ys} h each_none = h
-each-inserts P {ys} h (each_more {x = z} p r) = each-inserts P (each-insert ltb z ys p h) r
+each-inserts P {ys} h (each_more {x = z} p r) = each-inserts P {ys = insert ltb z ys} (each-insert ltb z ys p h) r
 
 -- the blocks found have room
 pub collected-room : (want : ℕ) (ys zs : List ℕ) (t : Taken) → want ≤ 16 → Collected want ys zs t → Room 16 t
