@@ -15,7 +15,7 @@ import subprocess
 import sys
 import tempfile
 
-NAME = r"[^\s(){}\[\],;.:«»\"`@λ]+"
+NAME = r"[^\s(){}\[\],;.:«»\"`@λ=]+"
 
 
 def norm(name):

@@ -11,7 +11,7 @@ use lib.Dec.{eqb, ltb, leb}
 use lib.ListN.{length, take, drop, get_or, set, length-set}
 use lib.Seq.{get_or-take, length-take-le, drop-cons, drop-length, get_or-set_same, get_or-set_other}
 use borrow.Author.Tests.{eqb-true, eqb-false, eq-eqb, ne_eqb, ltb-true, ltb-false, lt-ltb, le-ltb, le-leb, lt-leb}
-use Rattle.rules.specs.Lists.{maybe, range, filter, member}
+use Rattle.rules.specs.Lists.{maybe, range, filter, insert, member}
 use Rattle.rules.specs.Sizes.{group_blocks}
 use Rattle.rules.specs.Allocation.{allocation_groups, group_start, group_end, highest, first_run, allocate_data, hint_after}
 use Rattle.rules.proofs.ListLaws.{test-cases, clash, order-cases, if-true, if-false, if-cases, and_right, or_cases, or_left, or_right, member-append, maybe-some, maybe-none, maybe-cases, Each, each_none, each_more, each_weaken, each_append, each-insert, each_at}

@@ -1,0 +1,11 @@
+-- `triples::lengths_differ` meets its contract.
+-- Assumes nothing.
+use Prim.Native.Nat.{◌-◌, ◌≤◌}
+use Rattle.triples.proofs.TripleLaws.{LeftOf}
+use Rattle.triples.proofs.lengths_differ.Given as goal
+
+abbrev pub invariant-loop-i : goal.invariant-loop-i
+invariant-loop-i l = (l.i ≤ l.n) × LeftOf l.list l.total l.left l.i
+
+abbrev pub decreases-loop-i : goal.decreases-loop-i
+decreases-loop-i l = l.n - l.i
