@@ -1,0 +1,14 @@
+-- `intake_maps::blocks_mappable` meets its contract.
+-- Assumes nothing.
+use native.Mathlib.Omega.{arith}
+use Rattle.intake_maps.proofs.MapLaws.{first-reserved, none-reserved, none-reserved-to}
+use Rattle.intake_maps.proofs.blocks_mappable.Goals as goal
+
+pub returns-then-a-reserved : goal.returns-then-a-reserved
+returns-then-a-reserved c = first-reserved _ _ _ _ _ (omega arith) c.if-a-reserved.true
+
+pub returns-then-n-a : goal.returns-then-n-a
+returns-then-n-a c = none-reserved _ _ _ _ _ _ c.if-a-reserved.false c.only_in_word.ensures
+
+pub returns : goal.returns
+returns c = none-reserved-to _ _ _ _ _ _ c.if-a-reserved.false c.all_only.ensures
