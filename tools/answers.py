@@ -79,7 +79,10 @@ def split_tuple(text):
         elif ch == ',' and depth == 1:
             parts.append(text[start:i])
             start = i + 1
-    return [p.strip() for p in parts] if len(parts) > 1 else None
+    parts = [p.strip() for p in parts]
+    if not parts[-1]:
+        parts.pop()
+    return parts if len(parts) > 1 else None
 
 
 def lets(body):

@@ -16,7 +16,7 @@ pub returns-then-not-groups_right : goal.returns-then-not-groups_right
 returns-then-not-groups_right c = search (groups-break, rules)
 
 pub files_right-requires : goal.files_right-requires
-files_right-requires c = record { n_in_bounds = search rules; cards_value = (cards-ascend _ _ _ c.cards_right.ensures (ap not c.if-not-cards_right.false), extents-ascend _ _ _ _ c.extents_right.ensures (ap not c.if-not-extents_right.false)); extents_value =  }
+files_right-requires c = record { n_in_bounds = search rules; cards_value = cards-ascend _ _ _ c.cards_right.ensures (ap not c.if-not-cards_right.false); extents_value = extents-ascend _ _ _ _ c.extents_right.ensures (ap not c.if-not-extents_right.false) }
 
 pub returns : goal.returns
 returns c = search (files-break, rules)
