@@ -54,6 +54,7 @@ mapping-all f (x ∷ es) h object block p e =
 -- a block of a rewritten unit is where it has it
 new_mapping-mem : (rs : List Rewritten) → ascending unit_before rs ≡ true → (r : Rewritten) → Memᴰ r rs → (block : ℕ) (old : Option ℕ) → block / unit_blocks ≡ r.unit
     → new_mapping rs block old ≡ get_elem? r.blocks (block % unit_blocks)
+new_mapping-mem [] a r m block old q = elim m [ ]
 new_mapping-mem (t ∷ rs) a r (Memᴰ.head e) block old q = rw e (new_mapping-in t rs block old (eq-eqb (block / unit_blocks) t.unit (rw e at q)))
 new_mapping-mem (t ∷ rs) a r (Memᴰ.tail m) block old q =
     new_mapping-behind t rs block old (ne_eqb (block / unit_blocks) t.unit (λ z. omega (arith, each-mem (units-later t rs a) m)))

@@ -263,12 +263,10 @@ pub record UnitsOf (c : Change) (us : List ℕ) : Type 0 where
 
 -- a range ascends
 ascending-range : (first n : ℕ) → ascending ltb (range first n) ≡ true
-ascending-range first zero = unfold range neighbours in refl
-ascending-range first (suc zero) = unfold range neighbours in refl
-ascending-range first (suc (suc n)) = go (ascending-range (suc first) (suc n))
-  where
-    go : ascending ltb (range (suc first) (suc n)) ≡ true → ascending ltb (range first (suc (suc n))) ≡ true
-    go h = unfold range in ascending-cons first (suc first) (range (suc (suc first)) n) (omega arith) (unfold range in h)
+unfolding range neighbours
+ascending-range first zero = refl
+ascending-range first (suc zero) = refl
+ascending-range first (suc (suc n)) = ascending-cons first (suc first) (range (suc (suc first)) n) (omega arith) (ascending-range (suc first) (suc n))
 
 -- a unit that is not the tail of a file is as long as it was in a longer one, or lies past the end
 valid_same : (old new u : ℕ) → old ≤ new → (old % unit_bytes ≡ 0) ⊎ (u ≡ old / unit_bytes → ⊥) → (valid_length old u ≡ valid_length new u) ⊎ (old ≤ u * unit_bytes)

@@ -25,7 +25,7 @@ use Rattle.rules.specs.Refusal.Outcome.{accept}
 use Rattle.rules.specs.Units.{Change, clipped, write_change, grow_change, write_units, grow_units}
 use Rattle.rules.specs.Inspect.{unit_mapping}
 use Rattle.rules.specs.Rewrite.{Progress, rewrite_units}
-use Rattle.rules.specs.Rewrite.Plan.{refused, planned}
+use Rattle.rules.specs.Rewrite.Plan.{refused}
 use Rattle.rules.specs.Finish.{finished}
 use Rattle.rules.specs.Call.{InRange, call}
 use Rattle.rules.specs.Call.Call.{write, grow}

@@ -271,7 +271,7 @@ module _ (object : ℕ) where
       (each-with object (unit / group_units) gs (λ g. length g.slots ≡ group_units) (wide-empty object (unit / group_units)) h))
 
   -- a slot of no rewritten unit is as before
-  pub slot-finished-other : {rs : List Rewritten} (o u : ℕ) → Each (λ r. o ≡ object → u ≡ r.unit → ⊥) rs → (gs : List Group) → slot_in (finished_groups object rs gs) o u ≡ slot_in gs o u
+  pub slot-finished-other : (o u : ℕ) {rs : List Rewritten} → Each (λ r. o ≡ object → u ≡ r.unit → ⊥) rs → (gs : List Group) → slot_in (finished_groups object rs gs) o u ≡ slot_in gs o u
   unfolding finished_groups
   slot-finished-other o u each_none gs = refl
   slot-finished-other o u (each_more {x = r} d h) gs =
@@ -281,6 +281,7 @@ module _ (object : ℕ) where
   pub slot-finished-same : (rs : List Rewritten) → ascending unit_before rs ≡ true → (gs : List Group) → Each (λ g. length g.slots ≡ group_units) gs
       → (r : Rewritten) → Memᴰ r rs → slot_in (finished_groups object rs gs) object r.unit ≡ some r.checksum
   unfolding finished_groups
+  slot-finished-same [] a gs h r m = elim m [ ]
   slot-finished-same (t ∷ rs) a gs h r (Memᴰ.tail m) =
       slot-finished-same rs (ascending-tail unit_before t rs a) (set_slot object t.unit t.checksum gs) (wide-set t.unit t.checksum gs h) r m
   slot-finished-same (t ∷ rs) a gs h r (Memᴰ.head e) =

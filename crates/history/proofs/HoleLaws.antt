@@ -47,6 +47,7 @@ given-none (some x) e = absurd (clash e refl)
 -- bytes that reading a unit without a slot finds are zeros, for it is a hole or damaged
 bare-zero : {xs : List ℕ} (b : Bool) → UnitIs xs (if b then damaged no_checksum else hole) → all_zero xs ≡ true
 unfolding if◌then◌else◌
+bare-zero true u = elim u [ ]
 bare-zero {xs} false (is-hole e) = ap all_zero e ∙ all_zero-replicate (length xs)
 
 -- so are those of a file's unit, where it starts before the end; past it there are none

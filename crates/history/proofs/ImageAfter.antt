@@ -163,6 +163,7 @@ module _ (n : ℕ) where
       → (r : Rewritten) → Memᴰ r rs → (j : ℕ) → j < length r.kept → get_or r.kept j none ≡ none
       → block_at (finished_image rs image) (get_or r.blocks j 0) ≡ padded block_bytes (part (j * block_bytes) block_bytes r.bytes)
   unfolding finished_image
+  new-finished_image each_none image f o r m j l k = elim m [ ]
   new-finished_image (each_more {x = t} {xs = rs} a h) image f o r (Memᴰ.tail m) j l k =
       let e : length (write_new t.bytes 0 t.kept t.blocks image) ≡ length image = length-unit t a image f in
       new-finished_image h _ (rw e f) (once-right t.new (new_blocks rs) (rw (new-cons t rs) at o)) r m j l k

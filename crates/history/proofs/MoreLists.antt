@@ -26,6 +26,7 @@ get_elem-some (b ∷ bs) (suc i) l = get_elem-some bs i (omega arith)
 
 -- what holds of each element holds of one of them
 pub each-mem : {A : Type 0} {P : A → Type 0} {x : A} {xs : List A} → Each P xs → Memᴰ x xs → P x
+each-mem each_none m = elim m [ ]
 each-mem (each_more p h) (Memᴰ.head e) = rw e p
 each-mem (each_more p h) (Memᴰ.tail m) = each-mem h m
 
@@ -79,6 +80,7 @@ ascending-through before φ e (x ∷ y ∷ xs) a =
 module _ {A : Type 0} (f : A → Bool) where
   -- one that passes is counted
   pub mem-counted : {x : A} (xs : List A) → Memᴰ x xs → f x ≡ true → 0 < count f xs
+  mem-counted [] m t = elim m [ ]
   mem-counted (y ∷ ys) (Memᴰ.head e) t = omega (arith, count_yes f y ys (rw e at t))
   mem-counted (y ∷ ys) (Memᴰ.tail m) t = omega (arith, mem-counted ys m t, count-cons f y ys)
 

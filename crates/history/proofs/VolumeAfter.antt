@@ -4,7 +4,7 @@ use mathlib.Core.Path.{◌≡◌, sym, ap, ◌∙◌}
 use mathlib.Core.List.{List, [], ◌∷◌, map, flat_map}
 use mathlib.Core.Bool.{true, ◌&&◌}
 use mathlib.Core.Option.{some}
-use Prim.Native.Nat.{ℕ, ◌+◌, ◌-◌, ◌*◌, ◌^◌, ◌≤◌, ◌<◌}
+use Prim.Native.Nat.{ℕ, ◌+◌, ◌*◌, ◌^◌, ◌≤◌, ◌<◌}
 use native.Mathlib.Nat.{pow-suc}
 use native.Mathlib.Omega.{arith}
 use lib.Dec.{eqb, leb}
@@ -14,7 +14,7 @@ use Rattle.rules.specs.Time.{Time}
 use Rattle.rules.specs.Book.{book_places}
 use Rattle.rules.specs.Lists.{given, all, count, ascending, begun}
 use Rattle.rules.specs.Sizes.{block_bytes, unit_blocks, most_blocks, most_size, most_allocated}
-use Rattle.rules.specs.Bytes.{Bytes, part}
+use Rattle.rules.specs.Bytes.{Bytes}
 use Rattle.rules.specs.Card.{Card, decode_card, card_before}
 use Rattle.rules.specs.Extent.{Extent, extent_bytes, extent_before, extent_end}
 use Rattle.rules.specs.Group.{group_bytes, group_before}

@@ -6,7 +6,6 @@ use mathlib.Core.List.{List, [], ◌∷◌, ◌++◌}
 use Prim.Native.Nat.{ℕ, zero, suc, ◌+◌, ◌%◌}
 use Rattle.rules.specs.Time.{Time}
 use Rattle.rules.specs.Store.{Store}
-use Rattle.rules.specs.Refusal.{Result}
 use Rattle.rules.specs.Call.{call}
 use Rattle.rules.specs.Call.Look.{read, fill}
 use Rattle.rules.specs.Call.Call.{fresh, enter, write, grow, settle, look}

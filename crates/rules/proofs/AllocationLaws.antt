@@ -10,7 +10,7 @@ use native.Mathlib.Omega.{arith}
 use lib.Dec.{eqb, ltb}
 use lib.ListN.{length, take, length-take}
 use borrow.Author.Tests.{ltb-true, ltb-false, lt-ltb, le-ltb, not-true}
-use Rattle.rules.specs.Lists.{if◌then◌else◌, maybe, range, all, filter, count, first_given, member, ascending}
+use Rattle.rules.specs.Lists.{if◌then◌else◌, maybe, range, filter, count, first_given, member, ascending}
 use Rattle.rules.specs.Sizes.{group_blocks, most_blocks}
 use Rattle.rules.specs.Allocation.{allocation_groups, group_order, group_start, group_end, highest, cursor, searched, available, found, sorted, found_first, too_few, run_in, first_run, allocate_data, hint_after}
 use Rattle.rules.proofs.ListLaws.{test-cases, clash, member-append, maybe-some, maybe-cases, if-cases, and_left, and_right, and_intro, order-cases, length-range, all-range-at, range-add, Each, each-any, each_weaken, each_map, map_each}

@@ -3,7 +3,7 @@
 -- Assumes nothing.
 use mathlib.Core.Path.{◌≡◌, refl, ap}
 use mathlib.Core.List.{List, [], flat_map}
-use mathlib.Core.Bool.{Bool, false, not, ◌&&◌}
+use mathlib.Core.Bool.{false, not, ◌&&◌}
 use Prim.Native.Nat.{ℕ, ◌-◌}
 use native.Mathlib.Omega.{arith}
 use lib.Dec.{ltb}
@@ -16,7 +16,7 @@ use Rattle.rules.specs.Extent.{encode_extent}
 use Rattle.rules.specs.Group.{encode_group}
 use Rattle.rules.specs.Map.{encode_map}
 use Rattle.rules.specs.Book.{encode_book}
-use Rattle.rules.specs.Store.{Store, lent, StoreBytes, Volume, decode, decode_with, head_of, encode_into, image_blocks}
+use Rattle.rules.specs.Store.{Store, lent, StoreBytes, decode, decode_with, head_of, encode_into, image_blocks}
 use Rattle.rules.specs.Fresh.{fresh_volume}
 use Rattle.rules.specs.Enter.{entered}
 use Rattle.rules.specs.Settle.{settled}

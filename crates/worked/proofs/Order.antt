@@ -11,7 +11,7 @@ use Rattle.rules.specs.Store.{Store, decode}
 use Rattle.rules.specs.Call.{call, run}
 use Rattle.rules.specs.Call.Call.{enter, write, grow, look}
 use Rattle.rules.specs.Call.Look.{read, fill}
-use Rattle.worked.proofs.Stores.{uuid, time, small, answer, extents, cards, extent, card, with_head, mapped, image_byte, with_cards, second, computed}
+use Rattle.worked.proofs.Stores.{uuid, time, small, answer, extents, extent, card, with_head, mapped, image_byte, with_cards, second, computed}
 
 -- no time
 pub never : Time

@@ -5,7 +5,7 @@ use mathlib.Core.Path.{◌≡◌, refl}
 use mathlib.Core.List.{List, [], ◌∷◌}
 use mathlib.Core.Bool.{true, false}
 use mathlib.Core.Option.{Option, none, some}
-use Prim.Native.Nat.{ℕ, ◌*◌}
+use Prim.Native.Nat.{ℕ}
 use lib.ListN.{length}
 use lib.Seq.{length-take-le}
 use native.Mathlib.Omega.{arith}
@@ -14,14 +14,14 @@ use Rattle.rules.specs.Sizes.{most_runs}
 use Rattle.rules.specs.Card.{Card}
 use Rattle.rules.specs.Extent.{Extent}
 use Rattle.rules.specs.Store.{Store, Volume}
-use Rattle.rules.specs.Units.{Change, clipped, units_of, write_change, grow_change, write_units, grow_units, valid_length}
+use Rattle.rules.specs.Units.{clipped, units_of, write_change, grow_change, write_units, grow_units, valid_length}
 use Rattle.rules.specs.Kept.{retained_blocks, superseded}
 use Rattle.rules.specs.Inspect.{backed_under}
 use Rattle.rules.specs.Inspect.Inspected.{damaged, hole, checked}
-use Rattle.rules.specs.Read.{Checked, read_length, then_units}
+use Rattle.rules.specs.Read.{read_length, then_units}
 use Rattle.rules.specs.Read.Checked.{failed, bytes}
 use Rattle.rules.specs.Refusal.Refusal.{no_checksum, checksum_differs}
-use Rattle.rules.specs.Refusal.{Outcome, first_case}
+use Rattle.rules.specs.Refusal.{first_case}
 use Rattle.rules.specs.Arguments.{is_past_limit, time_wrong}
 use Rattle.rules.specs.Write.{write_file, plan_of, carried_out}
 use Rattle.worked.proofs.Stores.{time, extent, computed}

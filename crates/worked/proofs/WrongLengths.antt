@@ -10,7 +10,7 @@ use Rattle.rules.specs.Store.{Store, lent}
 use Rattle.rules.specs.Lengths.{image_fits, book_fits}
 use Rattle.rules.specs.Call.Call.{fresh, look}
 use Rattle.rules.specs.Call.Look.{fill}
-use Rattle.worked.proofs.Stores.{uuid, small, answer, card, with_head, headed, mapped, booked, computed}
+use Rattle.worked.proofs.Stores.{uuid, small, answer, with_head, headed, mapped, booked, computed}
 
 -- the store with another image
 pub imaged : List ℕ → Store → Store
