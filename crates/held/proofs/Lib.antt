@@ -1,2 +1,1 @@
-pub mod LendArray
 pub mod SearchLaws
