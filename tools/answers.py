@@ -31,21 +31,8 @@ def old_names(crate):
                          capture_output=True, text=True)
     path = f'{folder}/names.json'
     if not os.path.exists(path):
-        sys.exit('no names:\n' + out.stdout[-3000:] + out.stderr[-2000:])
+        sys.exit('no names: ' + (out.stdout + out.stderr)[-300:])
     return json.load(open(path, encoding='utf-8'))
-
-
-def lent_by(callee, kind):
-    """The parameters of a function that are `&mut`: slices alone keep their length."""
-    if not callee:
-        return []
-    parts = callee.split('::')
-    for path in sorted(glob.glob(f'crates/{parts[0]}/src/**/*.rt', recursive=True)):
-        m = re.search(r'\bfn ' + parts[-1] + r'\b[^(]*\(([^{]*?)\)\s*(?:->|requires|ensures|\{|where)', open(path, encoding='utf-8').read(), re.S)
-        if m:
-            slices = r'(\w+):\s*&mut \[' if kind == 'auto' else r'(\w+):\s*&mut '
-            return re.findall(slices, m.group(1))
-    return []
 
 
 def clauses_of(callee, kind):
@@ -234,11 +221,14 @@ class Function:
                 self.say(f'clauses of {new}: {json.dumps(clauses)[:200]}')
         if rest[:1] == ['type-inv']:
             rest = ['type_inv'] + rest[1:]
-        lent = lent_by(self.entry['places'][i][3], rest[0]) if rest[:1] in (['auto'], ['new']) else []
-        if lent and rest[1:] and rest[1] in ('0', '1') or len(lent) == 1 and rest[1:] != lent:
-            got = self.nested(rest[1:], lent) if len(lent) > 1 else lent + [r for r in rest[1:] if r != '0']
-            if got:
-                return [new, rest[0]] + got, place
+        if rest[:1] in (['auto'], ['new']) and rest[1:] and rest[1] in '01':
+            # by the place of the parameter: `.1.1.0` is the third
+            params = self.entry['params'].get(self.entry['places'][i][3] or '', [])
+            k = 1
+            while k < len(rest) and rest[k] == '1':
+                k += 1
+            if k < len(rest) and rest[k] == '0' and k - 1 < len(params):
+                return [new, rest[0], params[k - 1]] + rest[k + 1:], place
         if rest[:1] in (['auto'], ['new']) and rest[1:2] and rest[1][0] in '01':
             self.say(f'{new}.{".".join(rest)}')
         return [new] + rest, place
@@ -246,6 +236,8 @@ class Function:
     def paths(self, body, at):
         # that each number of a slice fits its type: the search finds it
         known = r"λ k\. \(c(?:\.[\w'\-]+)*\.(?:shared-|shared_)?slice[-_]known[\w\-]*\.given k\)\.fits"
+        body = re.sub(r", c(?:\.[\w'\-]+)*\.(?:known|enum)[-_]told[\w\-]*\.given(?=\))", '', body)
+        body = body.replace('omega (arith)', 'omega arith')
         body = re.sub(r'\(' + known + r'\)', '(search rules)', body)
         body = re.sub(known, 'search rules', body)
         body = re.sub(r"\(c(?:\.[\w'\-]+)*\.(?:shared-|shared_)?slice[-_]known[\w\-]*\.given c[\w.\-']+\)\.fits", 'XX', body)
