@@ -169,8 +169,9 @@ class Function:
             pre = self.entry['pre']
             if pre and len(pre['fields']) > 1:
                 if not rest:
-                    self.say('requires whole')
                     return ['requires'], place
+                if rest[0] in pre['fields']:
+                    return ['requires'] + rest, place
                 got = self.nested(rest, pre['fields'])
                 if got is None:
                     self.say('requires: ' + '.'.join(rest))
@@ -242,6 +243,41 @@ class Function:
         body = re.sub(known, 'search rules', body)
         body = re.sub(r"\(c(?:\.[\w'\-]+)*\.(?:shared-|shared_)?slice[-_]known[\w\-]*\.given c[\w.\-']+\)\.fits", 'XX', body)
         body = body.replace('(XX)', 'XX').replace('XX', '(search rules)')
+        # a name for the requires, or for what lies behind its first clauses
+        pre = self.entry['pre']
+        fields_ = pre['fields'] if pre else []
+        for m in list(re.finditer(r"let ([\w']+) = c((?:\.before)*)\.requires((?:\.1)*) in", body)):
+            k = m.group(3).count('1')
+            if len(fields_) < 2 or k > len(fields_) - 1:
+                continue
+            v, here = m.group(1), fields_[k:]
+            if len(here) == 1:
+                body = body.replace(m.group(0), f'let {v} = c.requires.{here[0]} in')
+                continue
+            body = body.replace(m.group(0), f'let {v} = c.requires in')
+
+            def two(t):
+                if not t.group(1):
+                    return '(' + ', ('.join(f'{v}.{f}' for f in here) + ')' * (len(here) - 1)
+                got = self.nested(t.group(1).split('.')[1:], here)
+                if got is None:
+                    rest = t.group(1).split('.')[1:]
+                    if set(rest) == {'1'} and len(rest) < len(here):
+                        left = here[len(rest):]
+                        return '(' + ', ('.join(f'{v}.{f}' for f in left) + ')' * (len(left) - 1)
+                    self.say('requires as ' + v + t.group(1))
+                    return t.group(0)
+                return v + ''.join('.' + f for f in got)
+            body = re.sub(r"(?<![\w'\-.])" + re.escape(v) + r"((?:\.[\w'\-₀-₉]+)*)(?![\w'\-])(?! = c\.requires)", two, body)
+
+        def whole(m):
+            k = m.group(2).count('1')
+            here = fields_[k:]
+            if len(fields_) < 2 or len(here) < 2:
+                return m.group(0)
+            return '(' + ', ('.join(f'c.requires.{f}' for f in here) + ')' * (len(here) - 1)
+        body = re.sub(r"(?<!= )(?<![\w'\-.])c((?:\.before)*)\.requires((?:\.1)*)(?![\w.'\-])", whole, body)
+
         def one(m):
             fields = m.group(2).split('.')[1:]
             got, _ = self.path(at, fields)
@@ -254,16 +290,6 @@ class Function:
                 return f'(ap not {text})'
             return text
         body = re.sub(r"(?<![\w'\-.])(c)((?:\.[\w'\-₀-₉]+)+)", one, body)
-        # a name for the requires, or for a call's ensures
-        for m in list(re.finditer(r'let (\w+) = c\.requires in', body)):
-            pre = self.entry['pre']
-            if pre and len(pre['fields']) > 1:
-                v = m.group(1)
-
-                def two(k):
-                    got = self.nested(k.group(1).split('.')[1:], pre['fields'])
-                    return v + ''.join('.' + f for f in got) if got else k.group(0)
-                body = re.sub(r"(?<![\w'\-.])" + v + r"((?:\.[\w'\-₀-₉]+)+)", two, body)
         return body
 
     # ---- invariants
