@@ -201,7 +201,7 @@ fn missing_for(groups: &[u8], n: usize, object: u64, units: &[u64]) -> Missing
 pub fn missing_groups(groups: &[u8], n: usize, object: u64, units: &[u64]) -> usize
     requires n_in_bounds { group_bytes * n ≤ length groups.now }
     requires units_right { UnitsRight object (groups_in n groups.now) units.now }
-    ensures* { λ r. ⌜ ((rs : List Rewritten) → map (λ r. r.unit) rs ≡ units.now → length (finished_groups object rs (groups_in n groups.now)) ≡ n + r) ⌝ }
+    ensures { (rs : List Rewritten) → map (λ r. r.unit) rs ≡ units.now → length (finished_groups object rs (groups_in n groups.now)) ≡ n + result }
 {
     let m = missing_for(groups, n, object, units);
     m.count

@@ -1,0 +1,10 @@
+-- `finish_books::groups::absent` meets its contract.
+-- Assumes nothing.
+use Rattle.finish_books.proofs.MissingLaws.{absent-no, absent-yes}
+use Rattle.finish_books.proofs.groups.absent.Goals as goal
+
+pub returns-in-At : goal.returns-in-At
+returns-in-At c = absent-no _ _ _ _ _ _ c.find_group-found.ensures c.in-At.is
+
+pub returns : goal.returns
+returns c = absent-yes _ _ _ _ _ c.find_group-found.ensures c.in_default.is
