@@ -38,4 +38,4 @@ bench:
 	cargo run --release --offline --quiet --manifest-path host/bench/Cargo.toml
 
 clean:
-	rm -rf target host/target host/probe/target host/sangueko/target host/bench/target host/tool/target
+	rm -rf target crates/*/out host/target host/probe/target host/sangueko/target host/bench/target host/tool/target
