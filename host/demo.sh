@@ -2,7 +2,7 @@
 # The command `sangueko` on a store in a temporary folder: a file of flags is written, overwritten, shown, settled and read back, and it is told which parts
 # of it hold data; a batch of writes is made, and one that stops; a byte is written with `--archive` and without; files are written into a store with
 # holes; a write is killed; then one byte of a copy is damaged in each of several ways, a copy gets the cards of an older store, and the refusals are shown
-# in words. Every answer is compared with what it has to be: the script fails where one is not. It needs the archive (`rt staticlib volume`), ends by itself
+# in words. Every answer is compared with what it has to be: the script fails where one is not. It needs the archive (`tools/archives`), ends by itself
 # and leaves nothing behind.
 set -euo pipefail
 cd "$(dirname "$0")/.."

@@ -1,5 +1,5 @@
 /*
- * Sangueko: a store of files in buffers that the caller lends. The archive is libvolume.a, which `rt staticlib volume` writes to target/staticlib/, for
+ * Sangueko: a store of files in buffers that the caller lends. The archive is libvolume.a, which `tools/archives` writes to target/staticlib/, for
  * x86-64 and the C calling convention. Of the C library it calls memcpy and memset, and nothing else.
  *
  * A store is seven buffers, and every call is lent all of them, in this order, each as a pointer and its length in bytes:

@@ -11,7 +11,7 @@ fn main() {
     let archive = folder.join("libprobe.a");
     assert!(
         archive.is_file(),
-        "{} is missing: run `rt staticlib probe` first",
+        "{} is missing: run `tools/archives` at the repository's top first",
         archive.display()
     );
     println!("cargo::rerun-if-changed={}", archive.display());

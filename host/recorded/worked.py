@@ -19,16 +19,15 @@ CALLS = ['fresh', 'enter', 'write', 'grow', 'read', 'settle', 'fill']
 HEADER = '''-- Recorded answers of the Rust and of the model (host/recorded/answers.bin), computed by the checker from the definitions: each call's number, count and output
 -- buffer, and every byte of the store that it leaves. Written by host/recorded/worked.py, which says which calls are taken.
 -- Assumes nothing.
-use mathlib.Core.Path.{_≡_, refl}
-use mathlib.Core.List.{List, [], _∷_, _++_}
-use Prim.Native.Nat.{ℕ, zero, suc, _+_, _%_}
-use Rattle·rules.specs.Time.{Time}
-use Rattle·rules.specs.Store.{Store}
-use Rattle·rules.specs.Refusal.{Result}
-use Rattle·rules.specs.Call.{call}
-use Rattle·rules.specs.Call.Look.{read, fill}
-use Rattle·rules.specs.Call.Call.{fresh, enter, write, grow, settle, look}
-use Rattle·rules.proofs.Opened.{opened}
+use mathlib.Core.Path.{◌≡◌, refl}
+use mathlib.Core.List.{List, [], ◌∷◌, ◌++◌}
+use Prim.Native.Nat.{ℕ, zero, suc, ◌+◌, ◌%◌}
+use Rattle.rules.specs.Time.{Time}
+use Rattle.rules.specs.Store.{Store}
+use Rattle.rules.specs.Call.{call}
+use Rattle.rules.specs.Call.Look.{read, fill}
+use Rattle.rules.specs.Call.Call.{fresh, enter, write, grow, settle, look}
+use Rattle.rules.proofs.Opened.{opened}
 
 -- so many seconds, and nanoseconds
 abbrev pub time : ℕ → ℕ → Time

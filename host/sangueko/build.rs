@@ -12,7 +12,7 @@ fn main() {
     println!("cargo::rerun-if-changed={}", archive.display());
     if !archive.is_file() {
         println!(
-            "cargo::error={} is missing: `rt staticlib volume`, run at the repository's top, makes it",
+            "cargo::error={} is missing: `tools/archives`, run at the repository's top, makes it",
             archive.display()
         );
         return;

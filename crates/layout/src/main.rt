@@ -13,7 +13,7 @@ ghost use Rattle.layout.specs.Calls.{beginning, writes, grows, layout_calls};
 
 use format::card::CARD_BYTES;
 use format::extent::{EXTENT_BYTES, Extent};
-use libc::STDOUT_FILENO;
+use std::io;
 
 // The file.
 const OBJECT: u64 = 7;
@@ -157,41 +157,42 @@ fn lay_out(
 }
 
 // A number and what stands after it.
-fn print_number(n: u64, end: &[u8]) {
-    io::print_decimal(STDOUT_FILENO, n);
-    io::write_all(STDOUT_FILENO, end);
+fn print_number(rt: &impl Print, n: u64, end: &str) -> io::Result<()> {
+    print!(rt; "{n}{end}")
 }
 
 // A line of an extent's numbers.
-fn print_extent(e: Extent) {
-    print_number(e.object, b" ");
-    print_number(e.logical, b" ");
-    print_number(e.physical, b" ");
-    print_number(e.count as u64, b"\n");
+fn print_extent(rt: &impl Print, e: Extent) -> io::Result<()> {
+    print_number(rt, e.object, " ")?;
+    print_number(rt, e.logical, " ")?;
+    print_number(rt, e.physical, " ")?;
+    print_number(rt, e.count as u64, "\n")
 }
 
 // A line for each extent of a book of `n`.
-fn print_extents(extents: &[u8], n: usize)
+fn print_extents(rt: &impl Print, extents: &[u8], n: usize) -> io::Result<()>
     requires { n * extent_bytes ≤ length extents.now }
 {
     let mut i: usize = 0;
     while i < n {
-        print_extent(format::extent::decode_extent(extents, i * EXTENT_BYTES));
+        print_extent(rt, format::extent::decode_extent(extents, i * EXTENT_BYTES))?;
         i += 1;
     }
+    Ok(())
 }
 
 // The header, and the extents that the head counts. A head that counts more than the book has room for counts none.
-fn print_layout(head: &[u8; 28], extents: &[u8]) {
-    io::write_all(STDOUT_FILENO, b"object logical physical count\n");
+fn print_layout(rt: &impl Print, head: &[u8; 28], extents: &[u8]) -> io::Result<()> {
+    println!(rt; "object logical physical count")?;
     let h = format::head::decode_head(head);
     let n = h.extents as usize;
     if n <= extents.len() / EXTENT_BYTES {
-        print_extents(extents, n);
+        print_extents(rt, extents, n)?;
     }
+    Ok(())
 }
 
-fn main() {
+fn main(rt: HostRuntime) -> io::Result<()> {
     let mut image = [0u8; 32768];
     let mut head = [0u8; 28];
     let mut cards = [0u8; CARD_BYTES];
@@ -208,5 +209,5 @@ fn main() {
         &mut used,
         &mut retired,
     );
-    print_layout(&head, &extents);
+    print_layout(&rt, &head, &extents)
 }

@@ -4,7 +4,7 @@
 #![tactic(auto)]
 
 use format::card::CARD_BYTES;
-use libc::STDOUT_FILENO;
+use std::io;
 
 // The 48 bytes of an iSCSI Read (10) command PDU.
 const READ_10: [u8; 48] = [
@@ -31,69 +31,64 @@ const UUID: [u8; 16] = [
 ];
 
 // A name and a checksum.
-fn crc_line(name: &[u8], crc: u32) {
-    io::write_all(STDOUT_FILENO, name);
-    io::print_hex(STDOUT_FILENO, crc as u64, 8);
-    io::write_all(STDOUT_FILENO, b"\n");
+fn crc_line(rt: &impl Print, name: &str, crc: u32) -> io::Result<()> {
+    println!(rt; "{name}{crc:08x}")
 }
 
 // A name and a number.
-fn number_line(name: &[u8], n: u64) {
-    io::write_all(STDOUT_FILENO, name);
-    io::print_decimal(STDOUT_FILENO, n);
-    io::write_all(STDOUT_FILENO, b"\n");
+fn number_line(rt: &impl Print, name: &str, n: u64) -> io::Result<()> {
+    println!(rt; "{name}{n}")
 }
 
 // A name, and each byte as two hexadecimal digits.
-fn bytes_line(name: &[u8], s: &[u8]) {
-    io::write_all(STDOUT_FILENO, name);
-    let mut i: usize = 0;
-    while i < s.len() {
-        io::print_hex(STDOUT_FILENO, s[i] as u64, 2);
-        i += 1;
+fn bytes_line(rt: &impl Print, name: &str, s: &[u8]) -> io::Result<()> {
+    print!(rt; "{name}")?;
+    for byte in s {
+        print!(rt; "{byte:02x}")?;
     }
-    io::write_all(STDOUT_FILENO, b"\n");
+    println!(rt)
 }
 
 // The five of B.4.
-fn rfc_3720() {
-    crc_line(b"32 bytes of 00: ", crc32c::checksum(&[0u8; 32]));
-    crc_line(b"32 bytes of ff: ", crc32c::checksum(&[0xffu8; 32]));
-    crc_line(b"00 up to 1f: ", crc32c::checksum(&UP));
-    crc_line(b"1f down to 00: ", crc32c::checksum(&DOWN));
-    crc_line(b"Read (10): ", crc32c::checksum(&READ_10));
+fn rfc_3720(rt: &impl Print) -> io::Result<()> {
+    crc_line(rt, "32 bytes of 00: ", crc32c::checksum(&[0u8; 32]))?;
+    crc_line(rt, "32 bytes of ff: ", crc32c::checksum(&[0xffu8; 32]))?;
+    crc_line(rt, "00 up to 1f: ", crc32c::checksum(&UP))?;
+    crc_line(rt, "1f down to 00: ", crc32c::checksum(&DOWN))?;
+    crc_line(rt, "Read (10): ", crc32c::checksum(&READ_10))
 }
 
 // The check value again, fed in two parts.
-fn in_parts() {
+fn in_parts(rt: &impl Print) -> io::Result<()> {
     let t = crc32c_tables::tables();
     let c = crc32c::feed(&t, crc32c::begin(), b"1234");
     crc_line(
-        b"1234 and 56789: ",
+        rt,
+        "1234 and 56789: ",
         crc32c::finish(crc32c::feed(&t, c, b"56789")),
-    );
+    )
 }
 
 // 64 bits in both orders.
-fn numbers() {
+fn numbers(rt: &impl Print) -> io::Result<()> {
     let mut s = [0u8; 8];
     words::put_be64(&mut s, 0, 0x0102_0304_0506_0708);
-    bytes_line(b"be64: ", &s);
-    number_line(b"le64 of it: ", words::le64(&s, 0));
+    bytes_line(rt, "be64: ", &s)?;
+    number_line(rt, "le64 of it: ", words::le64(&s, 0))?;
     words::put_le64(&mut s, 0, 0x0102_0304_0506_0708);
-    bytes_line(b"le64: ", &s);
+    bytes_line(rt, "le64: ", &s)
 }
 
 // 32 bits in both orders.
-fn narrow_numbers() {
+fn narrow_numbers(rt: &impl Print) -> io::Result<()> {
     let mut s = [0u8; 4];
     words::put_le32(&mut s, 0, 0x0102_0304);
-    bytes_line(b"le32: ", &s);
-    number_line(b"be32 of it: ", words::be32(&s, 0) as u64);
+    bytes_line(rt, "le32: ", &s)?;
+    number_line(rt, "be32 of it: ", words::be32(&s, 0) as u64)
 }
 
 // A head whose `extents` lies across the two words.
-fn head() {
+fn head(rt: &impl Print) -> io::Result<()> {
     let mut s = [0u8; 12];
     fields::put_head(
         &mut s,
@@ -107,13 +102,13 @@ fn head() {
             groups: 5,
         },
     );
-    bytes_line(b"head: ", &s);
+    bytes_line(rt, "head: ", &s)?;
     let h = fields::read_head(&s, 0);
-    number_line(b"extents of it: ", h.extents);
+    number_line(rt, "extents of it: ", h.extents)
 }
 
 // A card whose `allocated`, `seconds` and creation time lie across two words.
-fn card() {
+fn card(rt: &impl Print) -> io::Result<()> {
     let mut s = [0u8; CARD_BYTES];
     fields::put_card(
         &mut s,
@@ -129,40 +124,50 @@ fn card() {
             spare: 0x8_0000_0001,
         },
     );
-    bytes_line(b"card: ", &s);
+    bytes_line(rt, "card: ", &s)?;
     let c = fields::read_card(&s, 0);
-    number_line(b"allocated of it: ", c.allocated);
-    number_line(b"seconds of it: ", c.seconds);
-    number_line(b"creation seconds of it: ", c.created_seconds);
-    number_line(b"creation nanoseconds of it: ", c.created_nanoseconds);
+    number_line(rt, "allocated of it: ", c.allocated)?;
+    number_line(rt, "seconds of it: ", c.seconds)?;
+    number_line(rt, "creation seconds of it: ", c.created_seconds)?;
+    number_line(rt, "creation nanoseconds of it: ", c.created_nanoseconds)
 }
 
 // A map of 96 bits: a range set in single bits and in words, and one bit of it cleared.
-fn bits() {
+fn bits(rt: &impl Print) -> io::Result<()> {
     let mut m = [0u8; 12];
     bitmap::set_range(&mut m, 3, 85);
     bitmap::clear(&mut m, 80);
-    bytes_line(b"bits 3 to 84 less 80: ", &m);
-    number_line(b"next clear from 3: ", bitmap::next_clear(&m, 3, 96) as u64);
-    number_line(b"next set from 81: ", bitmap::next_set(&m, 81, 96) as u64);
+    bytes_line(rt, "bits 3 to 84 less 80: ", &m)?;
     number_line(
-        b"next clear of 3 to 79: ",
+        rt,
+        "next clear from 3: ",
+        bitmap::next_clear(&m, 3, 96) as u64,
+    )?;
+    number_line(
+        rt,
+        "next set from 81: ",
+        bitmap::next_set(&m, 81, 96) as u64,
+    )?;
+    number_line(
+        rt,
+        "next clear of 3 to 79: ",
         bitmap::next_clear(&m, 3, 80) as u64,
-    );
-    number_line(b"set bits: ", bitmap::count_set(&m, 0, 96) as u64);
+    )?;
+    number_line(rt, "set bits: ", bitmap::count_set(&m, 0, 96) as u64)
 }
 
-fn main() {
-    rfc_3720();
-    crc_line(b"123456789: ", crc32c::checksum(b"123456789"));
-    in_parts();
+fn main(rt: HostRuntime) -> io::Result<()> {
+    rfc_3720(&rt)?;
+    crc_line(&rt, "123456789: ", crc32c::checksum(b"123456789"))?;
+    in_parts(&rt)?;
     crc_line(
-        b"unit: ",
+        &rt,
+        "unit: ",
         crc32c::unit_checksum(&UUID, 0x0102_0304_0506_0708, 9, b"123456789"),
-    );
-    numbers();
-    narrow_numbers();
-    head();
-    card();
-    bits();
+    )?;
+    numbers(&rt)?;
+    narrow_numbers(&rt)?;
+    head(&rt)?;
+    card(&rt)?;
+    bits(&rt)
 }

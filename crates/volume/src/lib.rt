@@ -4,12 +4,13 @@
 // it changes a byte, and answers a number and a count: a refused call gives its number with count 0 and leaves every buffer as it was. A batch of writes
 // does so for its own refusals, 1, 2 and 18; stopped by one of its writes it gives that refusal's number with the count of the writes before it.
 //
-// An export joins two parts: the tests, over the lent buffers as they are, and an inner call, which may take for granted that the tests passed.
+// A call joins two parts: the tests, over the lent buffers as they are, and an inner call, which may take for granted that the tests passed. C calls
+// them by the exports of `volume_c`, of the same names.
 #![tactic(auto)]
 
 ghost use Rattle.std.specs.Prelude.{◌≡◌, []};
 ghost use Rattle.rules.specs.Store.{lent};
-ghost use Rattle.rules.specs.Refusal.{result};
+ghost use Rattle.rules.specs.Refusal.{result as result_of};
 ghost use Rattle.rules.specs.Write.{write_outcome};
 ghost use Rattle.rules.specs.Call.{call};
 ghost use Rattle.rules.specs.Call.Look.{read, read_many, data_stretches, fill};
@@ -31,8 +32,7 @@ pub struct Answer {
 
 // Bytes of a file from `offset` on, at the head of `out`: all up to its end, as far as `out` has room and a read gets them. The count is their
 // number; the rest of `out` stays, and so does the store.
-#[unsafe(no_mangle)]
-pub extern "C" fn sangueko_read(
+pub fn sangueko_read(
     image: &[u8],
     head: &[u8],
     cards: &[u8],
@@ -44,7 +44,7 @@ pub extern "C" fn sangueko_read(
     offset: u64,
     out: &mut [u8],
 ) -> Answer
-    ensures* { λ r. ⌜ handed r.number r.count (lent image.now head.now cards.now extents.now groups.now used.now retired.now) out.new ≡ call (look (read object offset out.old)) (lent image.now head.now cards.now extents.now groups.now used.now retired.now) ⌝ }
+    ensures { handed result.number result.count (lent image.now head.now cards.now extents.now groups.now used.now retired.now) out.new ≡ call (look (read object offset out.old)) (lent image.now head.now cards.now extents.now groups.now used.now retired.now) }
 {
     let number = intake::refused(image, head, cards, extents, groups, used, retired);
     if number != 0 {
@@ -59,8 +59,7 @@ pub extern "C" fn sangueko_read(
 
 // The reads of a list of triples (object, offset, length), each into its piece of `out`, as a single read into a buffer of that length. The count is the
 // number of different units that they touch, each of which is inspected once. Where one read is refused the call is, and `out` stays.
-#[unsafe(no_mangle)]
-pub extern "C" fn sangueko_read_many(
+pub fn sangueko_read_many(
     image: &[u8],
     head: &[u8],
     cards: &[u8],
@@ -71,7 +70,7 @@ pub extern "C" fn sangueko_read_many(
     list: &[u8],
     out: &mut [u8],
 ) -> Answer
-    ensures* { λ r. ⌜ handed r.number r.count (lent image.now head.now cards.now extents.now groups.now used.now retired.now) out.new ≡ call (look (read_many list.now out.old)) (lent image.now head.now cards.now extents.now groups.now used.now retired.now) ⌝ }
+    ensures { handed result.number result.count (lent image.now head.now cards.now extents.now groups.now used.now retired.now) out.new ≡ call (look (read_many list.now out.old)) (lent image.now head.now cards.now extents.now groups.now used.now retired.now) }
 {
     let number = intake::refused(image, head, cards, extents, groups, used, retired);
     if number != 0 {
@@ -86,8 +85,7 @@ pub extern "C" fn sangueko_read_many(
 
 // The stretches of a file that hold data, in the `units` units from `first` on: each as a pair of numbers of 8 bytes, its first unit and how many they
 // are, one behind the other at the head of `out`, ascending. The count is the number of pairs; the rest of `out` stays, and so does the store.
-#[unsafe(no_mangle)]
-pub extern "C" fn sangueko_data_stretches(
+pub fn sangueko_data_stretches(
     image: &[u8],
     head: &[u8],
     cards: &[u8],
@@ -100,7 +98,7 @@ pub extern "C" fn sangueko_data_stretches(
     units: u64,
     out: &mut [u8],
 ) -> Answer
-    ensures* { λ r. ⌜ handed r.number r.count (lent image.now head.now cards.now extents.now groups.now used.now retired.now) out.new ≡ call (look (data_stretches object first units out.old)) (lent image.now head.now cards.now extents.now groups.now used.now retired.now) ⌝ }
+    ensures { handed result.number result.count (lent image.now head.now cards.now extents.now groups.now used.now retired.now) out.new ≡ call (look (data_stretches object first units out.old)) (lent image.now head.now cards.now extents.now groups.now used.now retired.now) }
 {
     let number = intake::refused(image, head, cards, extents, groups, used, retired);
     if number != 0 {
@@ -114,8 +112,7 @@ pub extern "C" fn sangueko_data_stretches(
 }
 
 // How much is used of the blocks that are not reserved, per mille; 0 where every block is reserved. Nothing changes.
-#[unsafe(no_mangle)]
-pub extern "C" fn sangueko_fill(
+pub fn sangueko_fill(
     image: &[u8],
     head: &[u8],
     cards: &[u8],
@@ -124,7 +121,7 @@ pub extern "C" fn sangueko_fill(
     used: &[u8],
     retired: &[u8],
 ) -> Answer
-    ensures* { λ r. ⌜ gave r.number r.count (lent image.now head.now cards.now extents.now groups.now used.now retired.now) ≡ call (look fill) (lent image.now head.now cards.now extents.now groups.now used.now retired.now) ⌝ }
+    ensures { gave result.number result.count (lent image.now head.now cards.now extents.now groups.now used.now retired.now) ≡ call (look fill) (lent image.now head.now cards.now extents.now groups.now used.now retired.now) }
 {
     let number = intake::refused(image, head, cards, extents, groups, used, retired);
     if number != 0 {
@@ -136,8 +133,7 @@ pub extern "C" fn sangueko_fill(
 }
 
 // The retired blocks let go: both bits of each are cleared. The count is their number.
-#[unsafe(no_mangle)]
-pub extern "C" fn sangueko_settle(
+pub fn sangueko_settle(
     image: &[u8],
     head: &[u8],
     cards: &[u8],
@@ -146,7 +142,7 @@ pub extern "C" fn sangueko_settle(
     used: &mut [u8],
     retired: &mut [u8],
 ) -> Answer
-    ensures* { λ r. ⌜ gave r.number r.count (lent image.now head.now cards.now extents.now groups.now used.new retired.new) ≡ call settle (lent image.now head.now cards.now extents.now groups.now used.old retired.old) ⌝ }
+    ensures { gave result.number result.count (lent image.now head.now cards.now extents.now groups.now used.new retired.new) ≡ call settle (lent image.now head.now cards.now extents.now groups.now used.old retired.old) }
 {
     let number = intake::refused(image, head, cards, extents, groups, used, retired);
     if number != 0 {
@@ -157,8 +153,7 @@ pub extern "C" fn sangueko_settle(
 }
 
 // A new file: a card of size 0 with no blocks and the lent time.
-#[unsafe(no_mangle)]
-pub extern "C" fn sangueko_enter(
+pub fn sangueko_enter(
     image: &[u8],
     head: &mut [u8],
     cards: &mut [u8],
@@ -170,7 +165,7 @@ pub extern "C" fn sangueko_enter(
     seconds: u64,
     nanoseconds: u64,
 ) -> Answer
-    ensures* { λ r. ⌜ gave r.number r.count (lent image.now head.new cards.new extents.now groups.now used.now retired.now) ≡ call (enter object (record { seconds = seconds; nanoseconds = nanoseconds })) (lent image.now head.old cards.old extents.now groups.now used.now retired.now) ⌝ }
+    ensures { gave result.number result.count (lent image.now head.new cards.new extents.now groups.now used.now retired.now) ≡ call (enter object (record { seconds = seconds; nanoseconds = nanoseconds })) (lent image.now head.old cards.old extents.now groups.now used.now retired.now) }
 {
     let number = intake::refused(image, head, cards, extents, groups, used, retired);
     if number != 0 {
@@ -204,7 +199,7 @@ fn write_within(
     seconds: u64,
     nanoseconds: u64,
 ) -> Answer
-    ensures* { λ r. ⌜ gave r.number r.count (lent image.new head.new cards.new extents.new groups.new used.new retired.new) ≡ result (lent image.old head.old cards.old extents.old groups.old used.old retired.old) [] (write_outcome limit object offset bytes.now (record { seconds = seconds; nanoseconds = nanoseconds }) (lent image.old head.old cards.old extents.old groups.old used.old retired.old)) ⌝ }
+    ensures { gave result.number result.count (lent image.new head.new cards.new extents.new groups.new used.new retired.new) ≡ result_of (lent image.old head.old cards.old extents.old groups.old used.old retired.old) [] (write_outcome limit object offset bytes.now (record { seconds = seconds; nanoseconds = nanoseconds }) (lent image.old head.old cards.old extents.old groups.old used.old retired.old)) }
 {
     let number = intake::refused(image, head, cards, extents, groups, used, retired);
     if number != 0 {
@@ -232,8 +227,7 @@ fn write_within(
 }
 
 // Bytes written to a file from `offset` on, as many of them as a write takes. The count is their number; the file grows where they end past its end.
-#[unsafe(no_mangle)]
-pub extern "C" fn sangueko_write(
+pub fn sangueko_write(
     image: &mut [u8],
     head: &mut [u8],
     cards: &mut [u8],
@@ -247,7 +241,7 @@ pub extern "C" fn sangueko_write(
     seconds: u64,
     nanoseconds: u64,
 ) -> Answer
-    ensures* { λ r. ⌜ gave r.number r.count (lent image.new head.new cards.new extents.new groups.new used.new retired.new) ≡ call (write object offset bytes.now (record { seconds = seconds; nanoseconds = nanoseconds })) (lent image.old head.old cards.old extents.old groups.old used.old retired.old) ⌝ }
+    ensures { gave result.number result.count (lent image.new head.new cards.new extents.new groups.new used.new retired.new) ≡ call (write object offset bytes.now (record { seconds = seconds; nanoseconds = nanoseconds })) (lent image.old head.old cards.old extents.old groups.old used.old retired.old) }
 {
     write_within(
         image,
@@ -267,8 +261,7 @@ pub extern "C" fn sangueko_write(
 }
 
 // The same for the archive writer: a unit keeps old blocks only at two runs or fewer, so that a file that is read end to end lies in fewer pieces.
-#[unsafe(no_mangle)]
-pub extern "C" fn sangueko_write_archive(
+pub fn sangueko_write_archive(
     image: &mut [u8],
     head: &mut [u8],
     cards: &mut [u8],
@@ -282,7 +275,7 @@ pub extern "C" fn sangueko_write_archive(
     seconds: u64,
     nanoseconds: u64,
 ) -> Answer
-    ensures* { λ r. ⌜ gave r.number r.count (lent image.new head.new cards.new extents.new groups.new used.new retired.new) ≡ call (write_archive object offset bytes.now (record { seconds = seconds; nanoseconds = nanoseconds })) (lent image.old head.old cards.old extents.old groups.old used.old retired.old) ⌝ }
+    ensures { gave result.number result.count (lent image.new head.new cards.new extents.new groups.new used.new retired.new) ≡ call (write_archive object offset bytes.now (record { seconds = seconds; nanoseconds = nanoseconds })) (lent image.old head.old cards.old extents.old groups.old used.old retired.old) }
 {
     write_within(
         image,
@@ -303,8 +296,7 @@ pub extern "C" fn sangueko_write_archive(
 
 // The writes of a list of triples (object, offset, length), one after another, each as a single write of the bytes that are next, with one time. It stops
 // at the first that is refused: the count is the number of writes done, and the number says what stopped it, or 0.
-#[unsafe(no_mangle)]
-pub extern "C" fn sangueko_write_batch(
+pub fn sangueko_write_batch(
     image: &mut [u8],
     head: &mut [u8],
     cards: &mut [u8],
@@ -317,7 +309,7 @@ pub extern "C" fn sangueko_write_batch(
     seconds: u64,
     nanoseconds: u64,
 ) -> Answer
-    ensures* { λ r. ⌜ gave r.number r.count (lent image.new head.new cards.new extents.new groups.new used.new retired.new) ≡ act (batch list.now bytes.now (record { seconds = seconds; nanoseconds = nanoseconds })) (lent image.old head.old cards.old extents.old groups.old used.old retired.old) ⌝ }
+    ensures { gave result.number result.count (lent image.new head.new cards.new extents.new groups.new used.new retired.new) ≡ act (batch list.now bytes.now (record { seconds = seconds; nanoseconds = nanoseconds })) (lent image.old head.old cards.old extents.old groups.old used.old retired.old) }
 {
     let number = intake::refused(image, head, cards, extents, groups, used, retired);
     if number != 0 {
@@ -343,8 +335,7 @@ pub extern "C" fn sangueko_write_batch(
 }
 
 // A file grown to `size` bytes, of which the new ones are zeros. The same size changes nothing, not even the time.
-#[unsafe(no_mangle)]
-pub extern "C" fn sangueko_grow(
+pub fn sangueko_grow(
     image: &mut [u8],
     head: &mut [u8],
     cards: &mut [u8],
@@ -357,7 +348,7 @@ pub extern "C" fn sangueko_grow(
     seconds: u64,
     nanoseconds: u64,
 ) -> Answer
-    ensures* { λ r. ⌜ gave r.number r.count (lent image.new head.new cards.new extents.new groups.new used.new retired.new) ≡ call (grow object size (record { seconds = seconds; nanoseconds = nanoseconds })) (lent image.old head.old cards.old extents.old groups.old used.old retired.old) ⌝ }
+    ensures { gave result.number result.count (lent image.new head.new cards.new extents.new groups.new used.new retired.new) ≡ call (grow object size (record { seconds = seconds; nanoseconds = nanoseconds })) (lent image.old head.old cards.old extents.old groups.old used.old retired.old) }
 {
     let number = intake::refused(image, head, cards, extents, groups, used, retired);
     if number != 0 {
@@ -380,8 +371,7 @@ pub extern "C" fn sangueko_grow(
 }
 
 // A fresh store in the lent buffers, whatever they hold: no record, the first blocks reserved and used, none retired. The image stays.
-#[unsafe(no_mangle)]
-pub extern "C" fn sangueko_fresh(
+pub fn sangueko_fresh(
     image: &[u8],
     head: &mut [u8],
     cards: &mut [u8],
@@ -392,7 +382,7 @@ pub extern "C" fn sangueko_fresh(
     uuid: &[u8],
     reserved: u64,
 ) -> Answer
-    ensures* { λ r. ⌜ gave r.number r.count (lent image.now head.new cards.new extents.new groups.new used.new retired.new) ≡ call (fresh uuid.now reserved) (lent image.now head.old cards.old extents.old groups.old used.old retired.old) ⌝ }
+    ensures { gave result.number result.count (lent image.now head.new cards.new extents.new groups.new used.new retired.new) ≡ call (fresh uuid.now reserved) (lent image.now head.old cards.old extents.old groups.old used.old retired.old) }
 {
     if intake_lengths::fresh_length_wrong(
         image, head, cards, extents, groups, used, retired, uuid, reserved,
