@@ -1,0 +1,12 @@
+use Rattle.probe.proofs.ProbeLaws.{bits-yes, bits-no, bits_inside, counted, cleared}
+use borrow.Author.Rules.{rules}
+use Rattle.probe.proofs.sangueko_probe_count_set.Goals as goal
+
+pub map_bits-requires : goal.map_bits-requires
+map_bits-requires c = search (bits-yes, bits-no, bits_inside, counted, cleared, rules)
+
+pub count_set-requires : goal.count_set-requires
+count_set-requires c = search (bits-yes, bits-no, bits_inside, counted, cleared, rules)
+
+pub returns : goal.returns
+returns c = search (bits-yes, bits-no, bits_inside, counted, cleared, rules)
