@@ -12,8 +12,7 @@ pub group_entry-requires : goal.group_entry-requires
 group_entry-requires c = record { group_within = found_within c.group_of-found.ensures c.requires.n_in_bounds; k_lt_group_units = omega arith }
 
 pub loop-i-preserved : goal.loop-i-preserved
-loop-i-preserved c =
-    (
+loop-i-preserved c = (
   omega arith,
   simp length-set c.loop-i.invariant.1,
   c.group_of-found.ensures,

@@ -10,8 +10,7 @@ insert_card-requires c =
     record { cards_right = r.right; n_in_bounds = r.room; card_fits = new-said _ _ _ c.new_card-c.ensures (omega arith) r.early r.part }
 
 pub returns : goal.returns
-returns c =
-    (
+returns c = (
   c.count_card.ensures,
   new-inserted _ _ _ _ _ _ c.new_card-c.ensures c.insert_card.ensures,
 )
