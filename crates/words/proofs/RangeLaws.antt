@@ -2,16 +2,16 @@
 -- Assumes nothing.
 use mathlib.Core.Path.{◌≡◌, refl, sym, ap, ◌∙◌}
 use mathlib.Core.Bool.{Bool, true, false, ◌&&◌}
-use mathlib.Core.List.{List, [], ◌∷◌, ◌++◌, append_assoc, append-nil}
+use mathlib.Core.List.{List, [], ◌∷◌, ◌++◌, append_assoc}
 use Prim.Native.Nat.{ℕ, zero, suc, ◌+◌, ◌-◌, ◌≤◌, ◌<◌}
 use native.Mathlib.Nat.{add-suc, suc-add, sub_self}
 use native.Mathlib.Omega.{arith}
 use borrow.Author.Tests.{ne_eqb}
-use borrow.Rule.Slice.PartMut.{put_mid, post_of, Post-is}
+use borrow.Rule.Slice.PartMut.{put_mid}
 use lib.Bits.{bit_or, or_zero_l, or_add_and, and_le_r}
 use lib.Dec.{eqb, eqb-suc-zero}
-use lib.ListN.{length, take, drop, get_or, set, replicate, length-append, length-replicate, length-drop, replicate-append-replicate}
-use lib.Seq.{sets-eq, length-take-le, set-append_left, take-set-lt, take-suc-set, append_snoc, drop-drop, drop-length, take-length, take_all}
+use lib.ListN.{length, take, drop, get_or, set, replicate, length-append, length-replicate, replicate-append-replicate}
+use lib.Seq.{sets-eq, length-take-le, set-append_left, take-set-lt, take-suc-set, append_snoc, drop-drop}
 use Rattle.rules.specs.Lists.{all}
 use Rattle.rules.specs.Bytes.{part, patch, all_zero}
 use Rattle.rules.proofs.ListLaws.{all_append}

@@ -1,7 +1,6 @@
 use Rattle.bitmap.proofs.MapLaws.{count_none, count-bit}
 use Rattle.bitmap.proofs.BitLaws.{one-most}
 use native.Mathlib.Omega.{arith}
-use Prim.Native.Nat.{◌-◌}
 use mathlib.Core.Path.{◌≡◌}
 use Rattle.bitmap.proofs.count_bits.Goals as goal
 

@@ -1,7 +1,7 @@
 use Rattle.bitmap.proofs.MapLaws.{count-yet, count_word}
 use lib.Count.{ones-le}
 use native.Mathlib.Omega.{arith}
-use Prim.Native.Nat.{◌*◌, ◌-◌}
+use Prim.Native.Nat.{◌*◌}
 use mathlib.Core.Path.{◌≡◌}
 use Rattle.bitmap.proofs.count_words.Goals as goal
 

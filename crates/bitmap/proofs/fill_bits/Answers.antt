@@ -1,6 +1,5 @@
 use Rattle.bitmap.proofs.MapLaws.{with_none, fill-bit}
 use native.Mathlib.Omega.{arith}
-use Prim.Native.Nat.{◌-◌}
 use mathlib.Core.Path.{◌≡◌, refl}
 use Rattle.bitmap.proofs.fill_bits.Goals as goal
 

@@ -1,6 +1,6 @@
 use Rattle.bitmap.proofs.MapLaws.{fill-yet, fill-word}
 use native.Mathlib.Omega.{arith}
-use Prim.Native.Nat.{◌*◌, ◌-◌}
+use Prim.Native.Nat.{◌*◌}
 use mathlib.Core.Path.{◌≡◌, refl}
 use Rattle.bitmap.proofs.fill_words.Goals as goal
 

@@ -1,6 +1,5 @@
 use Rattle.bitmap.proofs.MapLaws.{next-yet, bit_found, bit-passed, next-end}
 use native.Mathlib.Omega.{arith}
-use Prim.Native.Nat.{◌-◌}
 use Rattle.bitmap.proofs.next_bits.Goals as goal
 
 pub loop-n-init : goal.loop-n-init

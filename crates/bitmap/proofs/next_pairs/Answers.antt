@@ -1,6 +1,5 @@
 use Rattle.bitmap.proofs.MapLaws.{words-yet, word-found, word-passed, next-end}
 use native.Mathlib.Omega.{arith}
-use Prim.Native.Nat.{◌-◌}
 use Rattle.bitmap.proofs.next_pairs.Goals as goal
 
 pub loop-i-init : goal.loop-i-init

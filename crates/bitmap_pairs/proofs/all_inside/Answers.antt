@@ -1,4 +1,3 @@
-use Prim.Native.Nat.{◌-◌}
 use lib.Bits.{or_lt}
 use native.Mathlib.Omega.{arith}
 use Rattle.bitmap_pairs.proofs.PairLaws.{failed-yet, failed-more, failed-whole}

@@ -1,4 +1,3 @@
-use Prim.Native.Nat.{◌-◌}
 use lib.Bits.{and_lt}
 use native.Mathlib.Omega.{arith}
 use Rattle.bitmap_pairs.proofs.PairLaws.{passed-yet, passed-more, failed-end}

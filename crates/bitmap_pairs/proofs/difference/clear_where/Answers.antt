@@ -1,6 +1,5 @@
 use Rattle.bitmap_pairs.proofs.DifferenceLaws.{clearing-yet, clearing-more, clearing-all}
 use native.Mathlib.Omega.{arith}
-use Prim.Native.Nat.{◌-◌}
 use borrow.Author.Rules.{rules}
 use Rattle.bitmap_pairs.proofs.difference.clear_where.Goals as goal
 

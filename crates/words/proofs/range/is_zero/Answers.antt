@@ -1,6 +1,5 @@
 use Rattle.words.proofs.RangeLaws.{zeros-none, zeros-more}
 use native.Mathlib.Omega.{arith}
-use Prim.Native.Nat.{◌-◌}
 use mathlib.Core.Path.{◌≡◌}
 use borrow.Author.Rules.{rules}
 use Rattle.words.proofs.range.is_zero.Goals as goal

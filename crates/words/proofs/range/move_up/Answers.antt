@@ -1,7 +1,6 @@
 use Rattle.words.proofs.RangeLaws.{up_none, up_more}
 use native.Mathlib.Omega.{arith}
 use lib.ListN.{length-set}
-use Prim.Native.Nat.{◌-◌}
 use mathlib.Core.Path.{◌≡◌}
 use borrow.Author.Rules.{rules}
 use Rattle.words.proofs.range.move_up.Goals as goal
