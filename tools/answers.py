@@ -128,6 +128,7 @@ class Function:
         self.goals = {}
         self.left = []
         self.more = set()
+        self.whole = []
         self.parent = {p[0]: p[1] for p in entry['places']}
         self.step = {p[0]: p[2] for p in entry['places']}
         self.index = {p[0]: i for i, p in enumerate(entry['places'])}
@@ -209,7 +210,9 @@ class Function:
             clauses = self.entry['clauses'][i]
             if clauses and isinstance(clauses, dict) and len(clauses.get('fields', [])) > 1:
                 if len(rest) == 1:
-                    self.say(f'ensures of {new} whole: {clauses["fields"]}')
+                    self.whole = clauses['fields']
+                elif rest[1] in clauses['fields']:
+                    pass
                 else:
                     got = self.nested(rest[1:], clauses['fields'])
                     if got is None:
@@ -243,32 +246,40 @@ class Function:
         body = re.sub(known, 'search rules', body)
         body = re.sub(r"\(c(?:\.[\w'\-]+)*\.(?:shared-|shared_)?slice[-_]known[\w\-]*\.given c[\w.\-']+\)\.fits", 'XX', body)
         body = body.replace('(XX)', 'XX').replace('XX', '(search rules)')
-        # a name for the requires, or for what lies behind its first clauses
+        # a name for the requires or for what a call ensures, or for what lies behind its first clauses
         pre = self.entry['pre']
         fields_ = pre['fields'] if pre else []
-        for m in list(re.finditer(r"let ([\w']+) = c((?:\.before)*)\.requires((?:\.1)*) in", body)):
-            k = m.group(3).count('1')
-            if len(fields_) < 2 or k > len(fields_) - 1:
+        for m in list(re.finditer(r"let ([\w']+) = (c(?:\.before)*(?:\.[\w'\-]+)?)\.(requires|ensures)((?:\.1)*) in", body)):
+            v, stem, kind, tail = m.groups()
+            whole_fields = fields_
+            if kind == 'ensures':
+                self.whole = []
+                self.path(at, stem.split('.')[1:] + ['ensures'])
+                whole_fields = self.whole
+            k = tail.count('1')
+            if len(whole_fields) < 2 or k > len(whole_fields) - 1:
                 continue
-            v, here = m.group(1), fields_[k:]
+            here = whole_fields[k:]
+            stem = 'c' if kind == 'requires' else stem
             if len(here) == 1:
-                body = body.replace(m.group(0), f'let {v} = c.requires.{here[0]} in')
+                body = body.replace(m.group(0), f'let {v} = {stem}.{kind}.{here[0]} in')
                 continue
-            body = body.replace(m.group(0), f'let {v} = c.requires in')
+            body = body.replace(m.group(0), f'let {v} = {stem}.{kind} in')
+            at_ = body.index(f'let {v} = {stem}.{kind} in') + len(f'let {v} = {stem}.{kind} in')
 
-            def two(t):
+            def two(t, v=v, here=here):
                 if not t.group(1):
                     return '(' + ', ('.join(f'{v}.{f}' for f in here) + ')' * (len(here) - 1)
-                got = self.nested(t.group(1).split('.')[1:], here)
+                rest = t.group(1).split('.')[1:]
+                got = self.nested(rest, here)
                 if got is None:
-                    rest = t.group(1).split('.')[1:]
                     if set(rest) == {'1'} and len(rest) < len(here):
                         left = here[len(rest):]
                         return '(' + ', ('.join(f'{v}.{f}' for f in left) + ')' * (len(left) - 1)
-                    self.say('requires as ' + v + t.group(1))
+                    self.say(f'{kind} as ' + v + t.group(1))
                     return t.group(0)
                 return v + ''.join('.' + f for f in got)
-            body = re.sub(r"(?<![\w'\-.])" + re.escape(v) + r"((?:\.[\w'\-₀-₉]+)*)(?![\w'\-])(?! = c\.requires)", two, body)
+            body = body[:at_] + re.sub(r"(?<![\w'\-.])" + re.escape(v) + r"((?:\.[\w'\-₀-₉]+)*)(?![\w'\-])(?! = c\b)", two, body[at_:])
 
         def whole(m):
             k = m.group(2).count('1')
@@ -279,10 +290,14 @@ class Function:
         body = re.sub(r"(?<!= )(?<![\w'\-.])c((?:\.before)*)\.requires((?:\.1)*)(?![\w.'\-])", whole, body)
 
         def one(m):
+            self.whole = []
             fields = m.group(2).split('.')[1:]
             got, _ = self.path(at, fields)
             if got is None:
                 return m.group(1)
+            if got[-1] == 'ensures' and self.whole and not re.search(r'let [\w\']+ = $', m.string[:m.start()]):
+                here, self.whole = self.whole, []
+                return '(' + ', ('.join('.'.join([m.group(1)] + got + [f]) for f in here) + ')' * (len(here) - 1)
             text = m.group(1) + ''.join('.' + f for f in got)
             if got[0].startswith('if-not-') and got[1:] in (['true'], ['false']):
                 # today's fact speaks of the value itself

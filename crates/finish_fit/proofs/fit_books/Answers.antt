@@ -10,4 +10,4 @@ returns-then-groups-g c = groups-full _ _ _ _ _ _ _ _ c.missing_groups-missing.e
 pub returns : goal.returns
 returns c =
     let f = c.fit_extents.ensures in
-    books-fit _ _ _ _ _ _ _ _ c.missing_groups-missing.ensures _ _ _ _ _ _ (omega arith) c.if-groups-g.false f.0 f.1
+    books-fit _ _ _ _ _ _ _ _ c.missing_groups-missing.ensures _ _ _ _ _ _ (omega arith) c.if-groups-g.false f.groups_value f.extents_fit

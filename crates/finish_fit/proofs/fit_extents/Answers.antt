@@ -7,9 +7,9 @@ use Rattle.finish_fit.proofs.fit_extents.Goals as goal
 pub returns-then-extents-e : goal.returns-then-extents-e
 returns-then-extents-e c =
     let e = c.finished_extents-x.ensures in
-    record { groups_value = refl; extents_fit = extents-full _ _ _ _ _ _ _ _ _ e.0.0 e.0.1 e.1 c.if-extents-e.true }
+    record { groups_value = refl; extents_fit = extents-full _ _ _ _ _ _ _ _ _ e.cut_bound.0 e.cut_bound.1 e.finished c.if-extents-e.true }
 
 pub returns : goal.returns
 returns c =
     let e = c.finished_extents-x.ensures in
-    record { groups_value = refl; extents_fit = extents-fit _ _ _ _ _ _ _ _ _ e.0.0 e.0.1 e.1 c.if-extents-e.false }
+    record { groups_value = refl; extents_fit = extents-fit _ _ _ _ _ _ _ _ _ e.cut_bound.0 e.cut_bound.1 e.finished c.if-extents-e.false }
