@@ -164,7 +164,8 @@ class Function:
         if not fields:
             return None, place
         head, rest = fields[0], fields[1:]
-        if head in ('args', 'ranges'):
+        if head in ('args', 'ranges', 'well_formed', 'well-formed'):
+            head = head.replace('-', '_')
             return [head] + rest, place
         if head in ('requires', 'pre'):
             pre = self.entry['pre']
@@ -299,7 +300,8 @@ class Function:
                 here, self.whole = self.whole, []
                 return '(' + ', ('.join('.'.join([m.group(1)] + got + [f]) for f in here) + ')' * (len(here) - 1)
             text = m.group(1) + ''.join('.' + f for f in got)
-            if got[0].startswith('if-not-') and got[1:] in (['true'], ['false']):
+            callees = {c.split('::')[-1] for c in self.entry['params']}
+            if got[0].startswith('if-not-') and got[0].split('-')[2] in callees and got[1:] in (['true'], ['false']):
                 # today's fact speaks of the value itself
                 self.more.update({'use mathlib.Core.Path.{ap}', 'use mathlib.Core.Bool.{not}'})
                 return f'(ap not {text})'
