@@ -48,6 +48,11 @@ def clauses_of(callee, kind):
     return []
 
 
+def pairs(items):
+    """Nested pairs, the last not paired."""
+    return items[0] if len(items) == 1 else f'({items[0]}, {pairs(items[1:])})'
+
+
 def split_tuple(text):
     """The parts of a tuple in its parentheses, or None."""
     text = text.strip()
@@ -142,6 +147,14 @@ class Function:
 
     # ---- paths
 
+    def above(self, place):
+        """A place and those before it."""
+        out = []
+        while place is not None:
+            out.append(place)
+            place = self.parent[place]
+        return out
+
     def nested(self, rest, fields):
         """`.1.1.0.x` over n clauses, the last not paired, as `.name.x`."""
         n = len(fields)
@@ -181,19 +194,13 @@ class Function:
                 return ['requires'] + got, place
             return ['requires'] + rest, place
         # what an arm binds, and that the value is its variant
-        q = place
-        while q is not None:
+        for q in self.above(place) + self.above(at):
             arm = self.entry['arms'][self.index[q]]
             for field, step, old in (arm[2] if arm else []):
                 if old and norm(step) == norm(head) and rest[:len(old)] == old:
                     return [arm[0], field] + rest[len(old):], place
-            q = self.parent[q]
         # the step of this place, or of one above it
-        p = place
-        while p is not None and norm(self.step[p][0]) != norm(head):
-            p = self.parent[p]
-        if p is None:
-            p = next((q for q in self.step if norm(self.step[q][0]) == norm(head)), None)
+        p = next((q for q in self.above(place) + self.above(at) + list(self.step) if norm(self.step[q][0]) == norm(head)), None)
         if p is None and head.endswith(('_lem', '-lem')):
             return self.path(place, [head[:-4]] + rest)
         if p is None:
@@ -270,13 +277,13 @@ class Function:
 
             def two(t, v=v, here=here):
                 if not t.group(1):
-                    return '(' + ', ('.join(f'{v}.{f}' for f in here) + ')' * (len(here) - 1)
+                    return pairs([f'{v}.{f}' for f in here])
                 rest = t.group(1).split('.')[1:]
                 got = self.nested(rest, here)
                 if got is None:
                     if set(rest) == {'1'} and len(rest) < len(here):
                         left = here[len(rest):]
-                        return '(' + ', ('.join(f'{v}.{f}' for f in left) + ')' * (len(left) - 1)
+                        return pairs([f'{v}.{f}' for f in left])
                     self.say(f'{kind} as ' + v + t.group(1))
                     return t.group(0)
                 return v + ''.join('.' + f for f in got)
@@ -287,7 +294,7 @@ class Function:
             here = fields_[k:]
             if len(fields_) < 2 or len(here) < 2:
                 return m.group(0)
-            return '(' + ', ('.join(f'c.requires.{f}' for f in here) + ')' * (len(here) - 1)
+            return pairs([f'c.requires.{f}' for f in here])
         body = re.sub(r"(?<!= )(?<![\w'\-.])c((?:\.before)*)\.requires((?:\.1)*)(?![\w.'\-])", whole, body)
 
         def one(m):
@@ -298,7 +305,7 @@ class Function:
                 return m.group(1)
             if got[-1] == 'ensures' and self.whole and not re.search(r'let [\w\']+ = $', m.string[:m.start()]):
                 here, self.whole = self.whole, []
-                return '(' + ', ('.join('.'.join([m.group(1)] + got + [f]) for f in here) + ')' * (len(here) - 1)
+                return pairs(['.'.join([m.group(1)] + got + [f]) for f in here])
             text = m.group(1) + ''.join('.' + f for f in got)
             callees = {c.split('::')[-1] for c in self.entry['params']}
             if got[0].startswith('if-not-') and got[0].split('-')[2] in callees and got[1:] in (['true'], ['false']):
@@ -449,8 +456,7 @@ class Function:
     def write(self, path, head, uses, invs, answers):
         rel = self.folder.split('/proofs/')[1].replace('/', '.')
         module = f'Rattle.{self.crate}.proofs.{rel}'
-        keep = [u for u in uses if not re.search(r'\.(Statement|Tie|Reads|Lts)(\.| as |$)', u) or not u.startswith('use Rattle')]
-        keep = [u for u in keep if not re.match(r'use \S+\.(Tie|Reads|Lts) as', u)]
+        keep = [u for u in uses if not re.search(r'\.Statement\.\{', u) and not re.match(r'use \S+\.(Tie|Reads|Lts) as', u)]
 
         def used(text):
             out = []
