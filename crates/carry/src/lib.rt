@@ -6,7 +6,7 @@ ghost use Rattle.rules.specs.Sizes.{unit_bytes, most_blocks, most_size};
 ghost use Rattle.rules.specs.Extent.{extent_bytes};
 ghost use Rattle.rules.specs.Group.{group_bytes};
 ghost use Rattle.rules.specs.Store.{lent};
-ghost use Rattle.rules.specs.Refusal.{result};
+ghost use Rattle.rules.specs.Refusal.{result as result_of};
 ghost use Rattle.rules.specs.Units as rules;
 ghost use Rattle.rules.specs.Rewrite as rewriting;
 ghost use Rattle.rules.specs.Write.{carried_out};
@@ -27,7 +27,7 @@ use rewrite::Change;
 fn flat_blocks(new_size: u64, units: &[u64]) -> usize
     requires new_size_le_most_size { (new_size ≤ most_size) × (length units.now ≤ 18) }
     requires by_index { (i : ℕ) → i < length units.now → get_or units.now i 0 * unit_bytes < new_size }
-    ensures* { λ r. ⌜ ((c : rules.Change) → c.new_size ≡ new_size → r ≡ flat_blocks c units.now) ⌝ }
+    ensures { (c : rules.Change) → c.new_size ≡ new_size → result ≡ flat_blocks c units.now }
 {
     let n = units.len();
     if n == 0 {
@@ -51,7 +51,7 @@ fn fit_change(
     requires extents_right { ExtentsRight most_blocks e extents.now × (0 < length units.now → Planned object units.now blocks.now (extents_in e extents.now)) }
     requires g_in_bounds { (group_bytes * g ≤ length groups.now) × UnitsRight object (groups_in g groups.now) units.now }
     requires extent_bytes_in_bounds { extent_bytes * 290 ≤ length made.old }
-    ensures* { λ r. ⌜ Fits object units.now blocks.now g groups.now e extents.now r.number r.groups r.exchange.place r.exchange.cut r.exchange.count made.new ⌝ }
+    ensures { Fits object units.now blocks.now g groups.now e extents.now result.number result.groups result.exchange.place result.exchange.cut result.exchange.count made.new }
 {
     if units.len() == 0 {
         return Fit {
@@ -97,7 +97,7 @@ pub fn carry_change(
 ) -> u32
     requires carry_ready { CarryReady (lent image.old head.old cards.old extents.old groups.old used.old retired.old) n m g object change bytes.now allocated seconds nanoseconds hint units.now slots.now old.now kept.now blocks.now }
     requires extent_bytes_in_bounds { extent_bytes * 290 ≤ length made.old }
-    ensures* { λ r. ⌜ ((limit : ℕ) (c : rules.Change) (p : rewriting.Progress) (k : rewriting.Plan) → CarryFor limit (lent image.old head.old cards.old extents.old groups.old used.old retired.old) c p k uuid.now object change bytes.now allocated hint units.now slots.now old.now kept.now blocks.now → numbered r (lent image.new head.new cards.new extents.new groups.new used.new retired.new) ≡ result (lent image.old head.old cards.old extents.old groups.old used.old retired.old) [] (carried_out 0 c (record { seconds = seconds; nanoseconds = nanoseconds }) (lent image.old head.old cards.old extents.old groups.old used.old retired.old) k)) ⌝ }
+    ensures { (limit : ℕ) (c : rules.Change) (p : rewriting.Progress) (k : rewriting.Plan) → CarryFor limit (lent image.old head.old cards.old extents.old groups.old used.old retired.old) c p k uuid.now object change bytes.now allocated hint units.now slots.now old.now kept.now blocks.now → numbered result (lent image.new head.new cards.new extents.new groups.new used.new retired.new) ≡ result_of (lent image.old head.old cards.old extents.old groups.old used.old retired.old) [] (carried_out 0 c (record { seconds = seconds; nanoseconds = nanoseconds }) (lent image.old head.old cards.old extents.old groups.old used.old retired.old) k) }
 {
     let flat = flat_blocks(change.new_size, units);
     let fit = fit_change(extents, m, groups, g, object, units, &blocks[..flat], made);

@@ -2,7 +2,7 @@
 ghost use Rattle.std.specs.Prelude.{◌≡◌, [], ◌≤◌, ◌<◌};
 ghost use Rattle.rules.specs.Sizes.{most_size};
 ghost use Rattle.rules.specs.Store.{lent};
-ghost use Rattle.rules.specs.Refusal.{result};
+ghost use Rattle.rules.specs.Refusal.{result as result_of};
 ghost use Rattle.rules.specs.Write.{grow_outcome};
 ghost use Rattle.file.specs.Change.{numbered};
 ghost use Rattle.write.specs.Call.{StoreReady, FileReady, TimeFits, answered, grown};
@@ -28,7 +28,7 @@ fn grow_to(
 ) -> u32
     requires file_ready { FileReady (lent image.old head.old cards.old extents.old groups.old used.old retired.old) object old_size allocated }
     requires old_size_lt_size { (old_size < size) × (size ≤ most_size) × TimeFits seconds nanoseconds }
-    ensures* { λ r. ⌜ numbered r (lent image.new head.new cards.new extents.new groups.new used.new retired.new) ≡ grown (lent image.old head.old cards.old extents.old groups.old used.old retired.old) object old_size allocated size seconds nanoseconds ⌝ }
+    ensures { numbered result (lent image.new head.new cards.new extents.new groups.new used.new retired.new) ≡ grown (lent image.old head.old cards.old extents.old groups.old used.old retired.old) object old_size allocated size seconds nanoseconds }
 {
     let mut units = [0u64; 1];
     let k = kept::units::grow_units(old_size, &mut units);
@@ -73,7 +73,7 @@ pub fn grow_file(
     nanoseconds: u64,
 ) -> u32
     requires { StoreReady (lent image.old head.old cards.old extents.old groups.old used.old retired.old) }
-    ensures* { λ r. ⌜ answered r 0 (lent image.new head.new cards.new extents.new groups.new used.new retired.new) ≡ result (lent image.old head.old cards.old extents.old groups.old used.old retired.old) [] (grow_outcome object size (record { seconds = seconds; nanoseconds = nanoseconds }) (lent image.old head.old cards.old extents.old groups.old used.old retired.old)) ⌝ }
+    ensures { answered result 0 (lent image.new head.new cards.new extents.new groups.new used.new retired.new) ≡ result_of (lent image.old head.old cards.old extents.old groups.old used.old retired.old) [] (grow_outcome object size (record { seconds = seconds; nanoseconds = nanoseconds }) (lent image.old head.old cards.old extents.old groups.old used.old retired.old)) }
 {
     let file = super::find::find_file(head, cards, object);
     if !file.known {

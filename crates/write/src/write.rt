@@ -1,7 +1,7 @@
 // The call write, past refusals 1 and 2.
 ghost use Rattle.std.specs.Prelude.{◌≡◌, [], max};
 ghost use Rattle.rules.specs.Store.{lent};
-ghost use Rattle.rules.specs.Refusal.{result};
+ghost use Rattle.rules.specs.Refusal.{result as result_of};
 ghost use Rattle.rules.specs.Write.{write_outcome};
 ghost use Rattle.file.specs.Change.{numbered};
 ghost use Rattle.write.specs.Call.{StoreReady, FileReady, Taken, TimeFits, answered, written};
@@ -14,7 +14,7 @@ const MOST_UNITS: usize = 18;
 
 // The larger of two numbers.
 fn larger(a: u64, b: u64) -> u64
-    ensures* { λ r. ⌜ r ≡ max a b ⌝ }
+    ensures { result ≡ max a b }
 {
     if a < b {
         return b;
@@ -42,7 +42,7 @@ fn write_taken(
 ) -> u32
     requires file_ready { FileReady (lent image.old head.old cards.old extents.old groups.old used.old retired.old) object size allocated }
     requires taken { Taken offset bytes.now × TimeFits seconds nanoseconds }
-    ensures* { λ r. ⌜ numbered r (lent image.new head.new cards.new extents.new groups.new used.new retired.new) ≡ written limit (lent image.old head.old cards.old extents.old groups.old used.old retired.old) object size allocated offset bytes.now seconds nanoseconds ⌝ }
+    ensures { numbered result (lent image.new head.new cards.new extents.new groups.new used.new retired.new) ≡ written limit (lent image.old head.old cards.old extents.old groups.old used.old retired.old) object size allocated offset bytes.now seconds nanoseconds }
 {
     let len = bytes.len();
     let new_size = larger(size, offset + len as u64);
@@ -92,7 +92,7 @@ fn write_sized(
     nanoseconds: u64,
 ) -> Done
     requires { FileReady (lent image.old head.old cards.old extents.old groups.old used.old retired.old) object size allocated }
-    ensures* { λ r. ⌜ answered r.number r.count (lent image.new head.new cards.new extents.new groups.new used.new retired.new) ≡ result (lent image.old head.old cards.old extents.old groups.old used.old retired.old) [] (write_outcome limit object offset bytes.now (record { seconds = seconds; nanoseconds = nanoseconds }) (lent image.old head.old cards.old extents.old groups.old used.old retired.old)) ⌝ }
+    ensures { answered result.number result.count (lent image.new head.new cards.new extents.new groups.new used.new retired.new) ≡ result_of (lent image.old head.old cards.old extents.old groups.old used.old retired.old) [] (write_outcome limit object offset bytes.now (record { seconds = seconds; nanoseconds = nanoseconds }) (lent image.old head.old cards.old extents.old groups.old used.old retired.old)) }
 {
     if bytes.len() == 0 {
         return Done {
@@ -149,7 +149,7 @@ pub fn write_file(
     nanoseconds: u64,
 ) -> Done
     requires { StoreReady (lent image.old head.old cards.old extents.old groups.old used.old retired.old) }
-    ensures* { λ r. ⌜ answered r.number r.count (lent image.new head.new cards.new extents.new groups.new used.new retired.new) ≡ result (lent image.old head.old cards.old extents.old groups.old used.old retired.old) [] (write_outcome limit object offset bytes.now (record { seconds = seconds; nanoseconds = nanoseconds }) (lent image.old head.old cards.old extents.old groups.old used.old retired.old)) ⌝ }
+    ensures { answered result.number result.count (lent image.new head.new cards.new extents.new groups.new used.new retired.new) ≡ result_of (lent image.old head.old cards.old extents.old groups.old used.old retired.old) [] (write_outcome limit object offset bytes.now (record { seconds = seconds; nanoseconds = nanoseconds }) (lent image.old head.old cards.old extents.old groups.old used.old retired.old)) }
 {
     let file = super::find::find_file(head, cards, object);
     if !file.known {
