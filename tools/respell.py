@@ -109,6 +109,27 @@ def respell(text, rust, renamed):
     return '\n'.join(out)
 
 
+def choice(text, path):
+    """The rules' own `if◌then◌else◌` under a name that the library does not have: `pick b then x else y`."""
+    rust = path.endswith('.rt')
+    out = []
+    for line in text.split('\n'):
+        code, comment = (line, '') if path.endswith('.edit') else code_of(line, rust)
+        code = code.replace('if◌then◌else◌', 'pick◌then◌else◌')
+        if path.endswith('.antt') or re.search(r'(?<![\w\-])then(?![\w\-])', code):
+            code = re.sub(r"(?<![\w'\-.◌])if(?![\w'\-◌])", 'pick', code)
+        out.append(code + comment.replace('if◌then◌else◌', 'pick◌then◌else◌'))
+    return '\n'.join(out)
+
+
+def choices():
+    for path in list(files()) + sorted(glob.glob('crates/*/must-fail/*.edit')):
+        old = open(path, encoding='utf-8').read()
+        new = choice(old, path)
+        if new != old:
+            open(path, 'w', encoding='utf-8').write(new)
+
+
 def main():
     os.chdir(os.path.join(os.path.dirname(os.path.abspath(__file__)), '..'))
     if len(sys.argv) > 1:
@@ -132,6 +153,7 @@ def main():
         new = re.sub(r'`([^`\n]+)`', lambda m: '`' + TOKEN.sub(lambda t: renamed.get(t.group(0), t.group(0)), m.group(1)) + '`', old)
         if new != old:
             open(path, 'w', encoding='utf-8').write(new)
+    choices()
     print(f'{len(renamed)} names respelled')
 
 

@@ -10,7 +10,7 @@ use native.Mathlib.Omega.{arith}
 use lib.Dec.{eqb, ltb}
 use lib.ListN.{take, get_or}
 use borrow.Author.Tests.{eqb-true, eqb-false, lt-ltb}
-use Rattle.rules.specs.Lists.{if◌then◌else◌, maybe, range, all, filter, member, ascending, insert, neighbours}
+use Rattle.rules.specs.Lists.{pick◌then◌else◌, maybe, range, all, filter, member, ascending, insert, neighbours}
 use Rattle.rules.specs.Bytes.{bit_set}
 use Rattle.rules.specs.Allocation.{allocation_groups, group_order, group_start, group_end, highest, cursor, available, found, sorted, found_first, first_run, allocate_data}
 use Rattle.rules.proofs.ListLaws.{test-cases, clash, order-cases, if-true, if-false, and_left, and_intro, or_cases, or_left, or_right, or-none-left, or-none-right, filter-append, ascending-insert, each-any, Each}
@@ -48,7 +48,7 @@ start-cursor blocks taken g = go (highest blocks taken g) refl
         let h = highest-in blocks taken g b e in
         unfold past_highest cursor maybe in
         rw e
-        (test-cases (start_at (group_start g) (group_end blocks g) (suc b) ≡ (if eqb (suc b) (group_end blocks g) then group_start g else suc b)) (eqb (suc b) (group_end blocks g))
+        (test-cases (start_at (group_start g) (group_end blocks g) (suc b) ≡ (pick eqb (suc b) (group_end blocks g) then group_start g else suc b)) (eqb (suc b) (group_end blocks g))
         (λ t. let q : suc b ≡ group_end blocks g = eqb-true (suc b) (group_end blocks g) t in
         sym (start-high (group_start g) (group_end blocks g) (suc b) (omega arith)) ∙ sym (if-true (eqb (suc b) (group_end blocks g)) (group_start g) (suc b) t))
         (λ t. let q : suc b ≡ group_end blocks g → ⊥ = eqb-false (suc b) (group_end blocks g) t in

@@ -1,7 +1,7 @@
 -- The blocks that a call has taken so far, as the code carries them, and the answer to one unit.
 -- Assumes nothing.
 use Rattle.std.specs.Prelude.{◌≡◌, Bool, not, ◌||◌, List, [], ◌∷◌, ◌++◌, ℕ, suc, ◌*◌, ◌/◌, ◌<◌, ltb, leb, length, get_or, set}
-use Rattle.rules.specs.Lists.{if◌then◌else◌, maybe, member}
+use Rattle.rules.specs.Lists.{pick◌then◌else◌, maybe, member}
 use Rattle.rules.specs.Bytes.{bit_set}
 use Rattle.rules.specs.Sizes.{group_blocks}
 use Rattle.rules.specs.Allocation.{allocation_groups, highest, too_few, allocate_data, hint_after}
@@ -26,7 +26,7 @@ pub record Marked (map new after : List ℕ) : Type 0 where
 
 -- what is past the highest of a group, after one more block of it
 unfoldable pub above : ℕ → ℕ → ℕ
-above past b = if ltb b past then past else suc b
+above past b = pick ltb b past then past else suc b
 
 -- the cursors after a block
 unfoldable pub raised : List ℕ → ℕ → List ℕ

@@ -3,7 +3,7 @@
 use Rattle.std.specs.Prelude.{◌≡◌, true, ◌&&◌, ℕ, ◌+◌, ◌-◌, ◌%◌, ◌≤◌, ◌<◌, ltb, length, take, get_or}
 use mathlib.Core.List.{List, [], ◌∷◌, ◌++◌, flat_map}
 use Rattle.rules.specs.Sizes.{unit_blocks}
-use Rattle.rules.specs.Lists.{if◌then◌else◌, maybe, range, filter, insert}
+use Rattle.rules.specs.Lists.{pick◌then◌else◌, maybe, range, filter, insert}
 use Rattle.rules.specs.Bytes.{bit_set}
 use Rattle.rules.specs.Allocation.{allocation_groups, group_start, group_end, first_run}
 use Rattle.runs.specs.Runs.{clear}
@@ -26,7 +26,7 @@ inserts ys (z ∷ zs) = inserts (insert ltb z ys) zs
 
 -- where the search between two places starts: at what is past the highest block taken there, and at the first place where that is none of them
 unfoldable pub start_at : ℕ → ℕ → ℕ → ℕ
-start_at start end past = if ltb start past && ltb past end then past else start
+start_at start end past = pick ltb start past && ltb past end then past else start
 
 -- the clear bits of a group in the order of the search: from there on, then around
 unfoldable pub group_bits : List ℕ → ℕ → ℕ → ℕ → List ℕ

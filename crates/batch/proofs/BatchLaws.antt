@@ -10,7 +10,7 @@ use lib.ListN.{length, take, drop}
 use lib.Seq.{drop-drop}
 use borrow.Author.Tests.{leb-true, le-leb}
 use Rattle.rules.specs.Sizes.{most_runs, most_blocks}
-use Rattle.rules.specs.Lists.{if◌then◌else◌}
+use Rattle.rules.specs.Lists.{pick◌then◌else◌}
 use Rattle.rules.specs.Bytes.{Bytes}
 use Rattle.rules.specs.Time.{Time}
 use Rattle.rules.specs.Head.{decode_head}
@@ -184,10 +184,10 @@ module _ (s : Store) (r : StoreReady s) where
 module _ (list bytes : List ℕ) (time : Time) (s : Store) where
   -- refused by 18
   pub batch-refused : (m : Bool) → m ≡ batch_wrong list bytes → m ≡ true → answered 18 0 s ≡ batch_tried list bytes time s
-  unfolding batch_tried unless number_of if◌then◌else◌
+  unfolding batch_tried unless number_of pick◌then◌else◌
   batch-refused m e t = rw (← e, t) refl
 
   -- not refused by it
   pub batch-tried : (m : Bool) → m ≡ batch_wrong list bytes → m ≡ false → (g : Result) → g ≡ batch_from (decode_triples list) bytes time 0 s → g ≡ batch_tried list bytes time s
-  unfolding batch_tried unless if◌then◌else◌
+  unfolding batch_tried unless pick◌then◌else◌
   batch-tried m e t g h = rw (← e, t) h

@@ -14,7 +14,7 @@ use lib.Count.{count_trailing_zeros, under}
 use lib.Dec.{eqb, eqb-zero-suc, eqb-suc-zero, eqb-suc-suc}
 use lib.ListN.{get_or}
 use lib.Pow.{pow-lt, shl_exact, shr-shr}
-use Rattle.rules.specs.Lists.{if◌then◌else◌}
+use Rattle.rules.specs.Lists.{pick◌then◌else◌}
 use Rattle.rules.specs.Bytes.{le, Bytes, byte_of}
 use Rattle.rules.proofs.ListLaws.{if-cases}
 use Rattle.rules.proofs.BitLaws.{byte_of-lt, same_bits}
@@ -39,8 +39,8 @@ unfolding bit_of
 bit-zero j = rw (zero-div (2 ^ j)) refl
 
 -- a low bit is the number that its test says
-pub low-one : (p : ℕ) → p < 2 → (if eqb p 1 then 1 else 0) ≡ p
-unfolding if◌then◌else◌
+pub low-one : (p : ℕ) → p < 2 → (pick eqb p 1 then 1 else 0) ≡ p
+unfolding pick◌then◌else◌
 low-one zero h = refl
 low-one (suc zero) h = refl
 low-one (suc (suc p)) h = absurd (omega arith)
@@ -50,7 +50,7 @@ pub bits-same : (n x y : ℕ) → x < 2 ^ n → y < 2 ^ n → ((j : ℕ) → j <
 unfolding bit_of
 bits-same n x y h k e =
     same_bits n x y h k
-    (λ j l. sym (low-one (x / 2 ^ j % 2) (omega arith)) ∙ ap (λ (b : Bool). if b then 1 else 0) (e j l) ∙ low-one (y / 2 ^ j % 2) (omega arith))
+    (λ j l. sym (low-one (x / 2 ^ j % 2) (omega arith)) ∙ ap (λ (b : Bool). pick b then 1 else 0) (e j l) ∙ low-one (y / 2 ^ j % 2) (omega arith))
 
 -- ---- what an operation does to a bit
 
@@ -134,16 +134,16 @@ bit-byte_of n f k j h =
 -- ---- a byte with one bit as asked
 
 -- an or with a test chooses by it
-or-if : (a c : Bool) → a || c ≡ (if c then true else a)
-unfolding if◌then◌else◌
+or-if : (a c : Bool) → a || c ≡ (pick c then true else a)
+unfolding pick◌then◌else◌
 or-if true true = refl
 or-if true false = refl
 or-if false true = refl
 or-if false false = refl
 
 -- so does an and with its inverse
-and-if : (a c : Bool) → a && not c ≡ (if c then false else a)
-unfolding if◌then◌else◌
+and-if : (a c : Bool) → a && not c ≡ (pick c then false else a)
+unfolding pick◌then◌else◌
 and-if true true = refl
 and-if true false = refl
 and-if false true = refl
@@ -157,7 +157,7 @@ one_shifted k h = shl_exact {a = 1} 1 k 8 (omega arith) (omega arith) ∙ one-mu
 bit-set : (x k : ℕ) → x < 256 → k < 8 → bit_or x (1 * 2 ^ k % 2 ^ 8) ≡ with_bit x k true
 unfolding with_bit
 bit-set x k h l =
-    let f : ℕ → Bool = λ j. if eqb j k then true else bit_of x j in
+    let f : ℕ → Bool = λ j. pick eqb j k then true else bit_of x j in
     rw (one_shifted k l)
     (bits-same 8 (bit_or x (2 ^ k)) (byte_of 8 f 0) (or_lt 8 x (2 ^ k) h (pow-lt l)) (byte_of-lt 8 f 0)
     (λ j p. bit-or x (2 ^ k) j ∙ rw (bit-pow k j) (or-if (bit_of x j) (eqb j k)) ∙ sym (bit-byte_of 8 f 0 j p ∙ ap f (zero-add j))))
@@ -166,7 +166,7 @@ bit-set x k h l =
 bit-cleared : (x k : ℕ) → x < 256 → k < 8 → bit_and x (2 ^ 8 - 1 - 1 * 2 ^ k % 2 ^ 8) ≡ with_bit x k false
 unfolding with_bit
 bit-cleared x k h l =
-    let f : ℕ → Bool = λ j. if eqb j k then false else bit_of x j in
+    let f : ℕ → Bool = λ j. pick eqb j k then false else bit_of x j in
     rw (one_shifted k l)
     (bits-same 8 (bit_and x (2 ^ 8 - 1 - 2 ^ k)) (byte_of 8 f 0) (and_lt 8 x (2 ^ 8 - 1 - 2 ^ k) h (omega arith)) (byte_of-lt 8 f 0)
     (λ j p. bit-and x (2 ^ 8 - 1 - 2 ^ k) j ∙ rw (bit_not 8 (2 ^ k) j (pow-lt l) p, bit-pow k j) (and-if (bit_of x j) (eqb j k)) ∙ sym (bit-byte_of 8 f 0 j p ∙ ap f (zero-add j))))
@@ -261,30 +261,30 @@ first-clear w l =
 -- ---- a word of bits that are alike
 
 -- each of its bits
-pub bit-alike : (b : Bool) (j : ℕ) → j < 64 → bit_of (if b then 0xffffffffffffffff else 0) j ≡ b
-unfolding if◌then◌else◌
+pub bit-alike : (b : Bool) (j : ℕ) → j < 64 → bit_of (pick b then 0xffffffffffffffff else 0) j ≡ b
+unfolding pick◌then◌else◌
 bit-alike true j h = bit_not 64 0 j (omega arith) h ∙ rw (bit-zero j) refl
 bit-alike false j h = bit-zero j
 
 -- it is a word
-pub alike-lt : (b : Bool) → (if b then 0xffffffffffffffff else 0) < 2 ^ 64
-unfolding if◌then◌else◌
+pub alike-lt : (b : Bool) → (pick b then 0xffffffffffffffff else 0) < 2 ^ 64
+unfolding pick◌then◌else◌
 alike-lt true = omega arith
 alike-lt false = omega arith
 
 -- a word whose bits are all of the other kind has none
-pub first-none : (w : ℕ) (b : Bool) → w ≡ (if not b then 0xffffffffffffffff else 0) → First w b 64
+pub first-none : (w : ℕ) (b : Bool) → w ≡ (pick not b then 0xffffffffffffffff else 0) → First w b 64
 first-none w b e = record { most = omega arith; before = λ j h. ap (λ (x : ℕ). bit_of x j) e ∙ bit-alike (not b) j h; found = λ h. absurd (omega arith) }
 
 -- and any other word has one
-pub first_some : (w : ℕ) (b : Bool) (v t : ℕ) → v ≡ (if not b then 0xffffffffffffffff else 0) → (w ≡ v → ⊥) → w < 2 ^ 64 → First w b t → t < 64
+pub first_some : (w : ℕ) (b : Bool) (v t : ℕ) → v ≡ (pick not b then 0xffffffffffffffff else 0) → (w ≡ v → ⊥) → w < 2 ^ 64 → First w b t → t < 64
 first_some w b v t e d l f = go (dec_lt t 64)
   where
     go : Dec (t < 64) → t < 64
     go (yes h) = h
     go (no h) =
         let n : 64 ≤ t = omega arith in
-        let s : w ≡ (if not b then 0xffffffffffffffff else 0) = bits-same 64 w (if not b then 0xffffffffffffffff else 0) l (alike-lt (not b)) (λ j g. f.before j (omega arith) ∙ sym (bit-alike (not b) j g)) in
+        let s : w ≡ (pick not b then 0xffffffffffffffff else 0) = bits-same 64 w (pick not b then 0xffffffffffffffff else 0) l (alike-lt (not b)) (λ j g. f.before j (omega arith) ∙ sym (bit-alike (not b) j g)) in
         absurd (d (s ∙ sym e))
 
 -- ---- in the shape of the functions' needs
@@ -306,7 +306,7 @@ pub first-clear-asked : (w : ℕ) (b : Bool) → b ≡ false → w < 2 ^ 64 → 
 first-clear-asked w b e h = rw e (first-clear w h)
 
 -- a bit is at most one
-pub one-most : (b : Bool) (r : ℕ) → r ≡ (if b then 1 else 0) → r ≤ 1
-unfolding if◌then◌else◌
+pub one-most : (b : Bool) (r : ℕ) → r ≡ (pick b then 1 else 0) → r ≤ 1
+unfolding pick◌then◌else◌
 one-most true r e = omega arith
 one-most false r e = omega arith

@@ -15,7 +15,7 @@ use lib.Count.{ones, ones_step}
 use lib.Dec.{eqb, leb}
 use lib.ListN.{length, get_or, set, length-set}
 use lib.Seq.{get_or-set_same, get_or-set_other}
-use Rattle.rules.specs.Lists.{if◌then◌else◌, all, filter, count, range}
+use Rattle.rules.specs.Lists.{pick◌then◌else◌, all, filter, count, range}
 use Rattle.rules.specs.Bytes.{le, le_digits, part, patch, Bytes, bit_set}
 use Rattle.rules.proofs.ListLaws.{test-cases, clash, if-cases, range-add, length-range, all-range-at, all-range-of, count-append, count_yes, count_no, count-le}
 use Rattle.rules.proofs.ByteLaws.{bytes-part, bytes-patch, bytes-le_digits, length-le_digits, le-le_digits-fits, get_d_part, part-patch, length-patch, get_or-patch-before, get_or-patch-behind}
@@ -48,31 +48,31 @@ within-after a e k p = rw (le-ltb k e p) (and-false (leb a k))
 -- the map keeps its length
 pub length-with_bits : (b : Bool) (m : List ℕ) (a e : ℕ) → length (with_bits b m a e) ≡ length m
 unfolding with_bits
-length-with_bits b m a e = length-bit_bytes (length m) (λ k. if within a e k then b else bit_set m k) 0
+length-with_bits b m a e = length-bit_bytes (length m) (λ k. pick within a e k then b else bit_set m k) 0
 
 -- it is of bytes
 pub bytes-with_bits : (b : Bool) (m : List ℕ) (a e : ℕ) → Bytes (with_bits b m a e)
 unfolding with_bits
-bytes-with_bits b m a e = bytes-bit_bytes (length m) (λ k. if within a e k then b else bit_set m k) 0
+bytes-with_bits b m a e = bytes-bit_bytes (length m) (λ k. pick within a e k then b else bit_set m k) 0
 
 -- what each bit is afterwards
-pub bit_set-with_bits : (b : Bool) (m : List ℕ) (a e k : ℕ) → k < 8 * length m → bit_set (with_bits b m a e) k ≡ (if within a e k then b else bit_set m k)
+pub bit_set-with_bits : (b : Bool) (m : List ℕ) (a e k : ℕ) → k < 8 * length m → bit_set (with_bits b m a e) k ≡ (pick within a e k then b else bit_set m k)
 unfolding with_bits
-bit_set-with_bits b m a e k h = bit_set-bit_bytes (length m) (λ k. if within a e k then b else bit_set m k) 0 k h ∙ ap (λ (i : ℕ). if within a e i then b else bit_set m i) (zero-add k)
+bit_set-with_bits b m a e k h = bit_set-bit_bytes (length m) (λ k. pick within a e k then b else bit_set m k) 0 k h ∙ ap (λ (i : ℕ). pick within a e i then b else bit_set m i) (zero-add k)
 
 -- inside it is as asked
 pub bit_set-inside : (b : Bool) (m : List ℕ) (a e k : ℕ) → k < 8 * length m → a ≤ k → k < e → bit_set (with_bits b m a e) k ≡ b
-unfolding if◌then◌else◌
+unfolding pick◌then◌else◌
 bit_set-inside b m a e k h p q = bit_set-with_bits b m a e k h ∙ rw (within-yes a e k p q) refl
 
 -- before it is as it was
 pub bit_set-before : (b : Bool) (m : List ℕ) (a e k : ℕ) → k < 8 * length m → k < a → bit_set (with_bits b m a e) k ≡ bit_set m k
-unfolding if◌then◌else◌
+unfolding pick◌then◌else◌
 bit_set-before b m a e k h p = bit_set-with_bits b m a e k h ∙ rw (within-before a e k p) refl
 
 -- and behind too
 pub bit_set-after : (b : Bool) (m : List ℕ) (a e k : ℕ) → k < 8 * length m → e ≤ k → bit_set (with_bits b m a e) k ≡ bit_set m k
-unfolding if◌then◌else◌
+unfolding pick◌then◌else◌
 bit_set-after b m a e k h p = bit_set-with_bits b m a e k h ∙ rw (within-after a e k p) refl
 
 -- a map whose bits are so is that map
@@ -130,24 +130,24 @@ bit_set-set-other : (m : List ℕ) (i r k : ℕ) → (k / 8 ≡ i → ⊥) → b
 bit_set-set-other m i r k d = bit_set-is (set m i r) k ∙ rw (get_or-set_other m i (k / 8) r 0 d) (sym (bit_set-is m k))
 
 -- the bits of a byte with one as asked
-bit-with_bit : (x k j : ℕ) (b : Bool) → j < 8 → bit_of (with_bit x k b) j ≡ (if eqb j k then b else bit_of x j)
+bit-with_bit : (x k j : ℕ) (b : Bool) → j < 8 → bit_of (with_bit x k b) j ≡ (pick eqb j k then b else bit_of x j)
 unfolding with_bit
-bit-with_bit x k j b h = bit-byte_of 8 (λ j. if eqb j k then b else bit_of x j) 0 j h ∙ ap (λ (i : ℕ). if eqb i k then b else bit_of x i) (zero-add j)
+bit-with_bit x k j b h = bit-byte_of 8 (λ j. pick eqb j k then b else bit_of x j) 0 j h ∙ ap (λ (i : ℕ). pick eqb i k then b else bit_of x i) (zero-add j)
 
 -- the one that was asked for
 bit-asked : (x k : ℕ) (b : Bool) → k < 8 → bit_of (with_bit x k b) k ≡ b
-unfolding if◌then◌else◌
+unfolding pick◌then◌else◌
 bit-asked x k b h = bit-with_bit x k k b h ∙ rw (eq-eqb k k refl) refl
 
 -- and the others
 bit_kept : (x k j : ℕ) (b : Bool) → j < 8 → (j ≡ k → ⊥) → bit_of (with_bit x k b) j ≡ bit_of x j
-unfolding if◌then◌else◌
+unfolding pick◌then◌else◌
 bit_kept x k j b h d = bit-with_bit x k j b h ∙ rw (ne_eqb j k d) refl
 
 -- it is a byte
 with_bit-lt : (x k : ℕ) (b : Bool) → with_bit x k b < 256
 unfolding with_bit
-with_bit-lt x k b = byte_of-lt 8 (λ j. if eqb j k then b else bit_of x j) 0
+with_bit-lt x k b = byte_of-lt 8 (λ j. pick eqb j k then b else bit_of x j) 0
 
 -- the store of one bit
 pub put_one : (b : Bool) (m : List ℕ) (n r : ℕ) → r ≡ with_bit (get_or m (n / 8) 0) (n % 8) b → n < 8 * length m → Bytes m → set m (n / 8) r ≡ with_bits b m n (n + 1)
@@ -188,7 +188,7 @@ word-bit m n w j e z c h =
     ∙ sym (bit_set-is m (n + j) ∙ rw (q, r) refl)
 
 -- the store of a word
-put_word : (b : Bool) (m l : List ℕ) (n w : ℕ) → w ≡ (if b then 0xffffffffffffffff else 0) → l ≡ patch m (n / 8) (le_digits 8 w) → n % 8 ≡ 0 → n + 64 ≤ 8 * length m → Bytes m
+put_word : (b : Bool) (m l : List ℕ) (n w : ℕ) → w ≡ (pick b then 0xffffffffffffffff else 0) → l ≡ patch m (n / 8) (le_digits 8 w) → n % 8 ≡ 0 → n + 64 ≤ 8 * length m → Bytes m
     → l ≡ with_bits b m n (n + 64)
 put_word b m l n w e q z h c =
     let d : length (le_digits 8 w) ≡ 8 = length-le_digits 8 w in
@@ -226,7 +226,7 @@ fill-yet b m a z c =
     rw x (with_none b m a c)
 
 -- after one word more
-pub fill-word : (b : Bool) (m₀ m l : List ℕ) (a i w : ℕ) → m ≡ with_bits b m₀ a (8 * i) → w ≡ (if b then 0xffffffffffffffff else 0) → l ≡ patch m i (le_digits 8 w) → a ≤ 8 * i → 8 * i + 64 ≤ 8 * length m
+pub fill-word : (b : Bool) (m₀ m l : List ℕ) (a i w : ℕ) → m ≡ with_bits b m₀ a (8 * i) → w ≡ (pick b then 0xffffffffffffffff else 0) → l ≡ patch m i (le_digits 8 w) → a ≤ 8 * i → 8 * i + 64 ≤ 8 * length m
     → l ≡ with_bits b m₀ a (8 * (i + 8))
 fill-word b m₀ m l a i w p e q z h =
     let x : 8 * (i + 8) ≡ 8 * i + 64 = omega arith in
@@ -312,14 +312,14 @@ word-here : (m : List ℕ) (b : Bool) (i w t : ℕ) → w ≡ le (part i 8 m) �
 word-here m b i w t q c g = word_next m b (8 * i) w t (rw (← byte-bit i) q) (omega arith) c g
 
 -- the word that was looked at has the bit: it is not the word v, which has none
-pub word-found : (m : List ℕ) (b : Bool) (a e i w v t : ℕ) → Next m b a (8 * i) (8 * i) → w ≡ le (part i 8 m) → w < 2 ^ 64 → v ≡ (if not b then 0xffffffffffffffff else 0) → (w ≡ v → ⊥) → First w b t → Bytes m → 8 * i + 64 ≤ e
+pub word-found : (m : List ℕ) (b : Bool) (a e i w v t : ℕ) → Next m b a (8 * i) (8 * i) → w ≡ le (part i 8 m) → w < 2 ^ 64 → v ≡ (pick not b then 0xffffffffffffffff else 0) → (w ≡ v → ⊥) → First w b t → Bytes m → 8 * i + 64 ≤ e
     → Next m b a e (8 * i + t)
 word-found m b a e i w v t f q h p d g c l =
     let n : t < 64 = first_some w b v t p d h g in
     next-on m b a (8 * i) e (8 * i) (8 * i + t) f (omega arith) (next-stop m b (8 * i) (8 * i + 64) e (8 * i + t) (word-here m b i w t q c g) (omega arith) l)
 
 -- or it is that word
-pub word-passed : (m : List ℕ) (b : Bool) (a i w v : ℕ) → Next m b a (8 * i) (8 * i) → w ≡ le (part i 8 m) → v ≡ (if not b then 0xffffffffffffffff else 0) → w ≡ v → Bytes m → Next m b a (8 * (i + 8)) (8 * (i + 8))
+pub word-passed : (m : List ℕ) (b : Bool) (a i w v : ℕ) → Next m b a (8 * i) (8 * i) → w ≡ le (part i 8 m) → v ≡ (pick not b then 0xffffffffffffffff else 0) → w ≡ v → Bytes m → Next m b a (8 * (i + 8)) (8 * (i + 8))
 word-passed m b a i w v f q p d c =
     let x : 8 * (i + 8) ≡ 8 * i + 64 = omega arith in
     rw x (next-on m b a (8 * i) (8 * i + 64) (8 * i) (8 * i + 64) f (omega arith) (word-here m b i w 64 q c (first-none w b (d ∙ p))))
@@ -360,7 +360,7 @@ count_add : (f : ℕ → Bool) (a n k : ℕ) → count f (range a (n + k)) ≡ c
 count_add f a n k = ap (count f) (range-add a n k) ∙ count-append f (range a n) (range (a + n) k)
 
 -- the first bit, and those behind it
-count-front : (f : ℕ → Bool) (a n : ℕ) → count f (range a (suc n)) ≡ (if f a then 1 else 0) + count f (range (suc a) n)
+count-front : (f : ℕ → Bool) (a n : ℕ) → count f (range a (suc n)) ≡ (pick f a then 1 else 0) + count f (range (suc a) n)
 unfolding range
 count-front f a n =
     if-cases (λ (x : ℕ). count f (a ∷ range (suc a) n) ≡ x + count f (range (suc a) n)) (f a) 1 0
@@ -368,9 +368,9 @@ count-front f a n =
     (λ e. count_no f a (range (suc a) n) e ∙ sym (zero-add (count f (range (suc a) n))))
 
 -- one bit
-count-one : (f : ℕ → Bool) (a : ℕ) → count f (range a 1) ≡ (if f a then 1 else 0)
+count-one : (f : ℕ → Bool) (a : ℕ) → count f (range a 1) ≡ (pick f a then 1 else 0)
 unfolding count filter range
-count-one f a = count-front f a 0 ∙ add-zero (if f a then 1 else 0)
+count-one f a = count-front f a 0 ∙ add-zero (pick f a then 1 else 0)
 
 -- the bits of a word, one by one, are as many as its ones
 count_ones : (f : ℕ → Bool) (s k w : ℕ) → w < 2 ^ k → ((j : ℕ) → j < k → f (s + j) ≡ bit_of w j) → count f (range s k) ≡ ones w
@@ -391,7 +391,7 @@ unfolding count filter range
 count_none f a = rw (sub_self a) refl
 
 -- after one bit more
-pub count-bit : (m : List ℕ) (a n t r : ℕ) (x : Bool) → t ≡ count (bit_set m) (range a (n - a)) → x ≡ bit_set m n → r ≡ (if x then 1 else 0) → a ≤ n → t + r ≡ count (bit_set m) (range a (n + 1 - a))
+pub count-bit : (m : List ℕ) (a n t r : ℕ) (x : Bool) → t ≡ count (bit_set m) (range a (n - a)) → x ≡ bit_set m n → r ≡ (pick x then 1 else 0) → a ≤ n → t + r ≡ count (bit_set m) (range a (n + 1 - a))
 count-bit m a n t r x e p q l =
     let d : n + 1 - a ≡ n - a + 1 = omega arith in
     let y : a + (n - a) ≡ n = omega arith in

@@ -1,7 +1,7 @@
 -- Maps of bits, in the terms of the rules: a map with a range of its bits made alike, and the next bit of a kind.
 -- Assumes nothing.
 use Rattle.std.specs.Prelude.{◌≡◌, Bool, not, ◌&&◌, List, ℕ, ◌/◌, ◌%◌, ◌^◌, ◌≤◌, ◌<◌, eqb, leb, ltb, length}
-use Rattle.rules.specs.Lists.{if◌then◌else◌}
+use Rattle.rules.specs.Lists.{pick◌then◌else◌}
 use Rattle.rules.specs.Bytes.{bit_set, byte_of, bit_bytes}
 
 -- bit k of a number is set
@@ -14,11 +14,11 @@ within a e k = leb a k && ltb k e
 
 -- a byte with its bit k as b says
 unfoldable pub with_bit : ℕ → ℕ → Bool → ℕ
-with_bit x k b = byte_of 8 (λ j. if eqb j k then b else bit_of x j) 0
+with_bit x k b = byte_of 8 (λ j. pick eqb j k then b else bit_of x j) 0
 
 -- a map with its bits from a to e as b says, and the others as they were
 unfoldable pub with_bits : Bool → List ℕ → ℕ → ℕ → List ℕ
-with_bits b m a e = bit_bytes (length m) (λ k. if within a e k then b else bit_set m k) 0
+with_bits b m a e = bit_bytes (length m) (λ k. pick within a e k then b else bit_set m k) 0
 
 -- r is the first bit of the 64 of a word that is b, or 64
 pub record First (w : ℕ) (b : Bool) (r : ℕ) : Type 0 where

@@ -7,7 +7,7 @@
 #![tactic(auto)]
 
 ghost use Rattle.std.specs.Prelude.{◌≡◌, true, false, not, ◌+◌, ◌-◌, ◌*◌, ◌%◌, ◌^◌, ◌≤◌, ◌<◌, length};
-ghost use Rattle.rules.specs.Lists.{if◌then◌else◌, all, count, range};
+ghost use Rattle.rules.specs.Lists.{pick◌then◌else◌, all, count, range};
 ghost use Rattle.rules.specs.Bytes.{bit_set};
 ghost use Rattle.bitmap.specs.Map.{with_bit, with_bits, First, Next};
 
@@ -56,7 +56,7 @@ pub fn clear(m: &mut [u8], n: usize)
 
 // A word of 64 bits, all as asked.
 fn word_of(value: bool) -> u64
-    ensures { result ≡ (if value then 0xffffffffffffffff else 0) }
+    ensures { result ≡ (pick value then 0xffffffffffffffff else 0) }
 {
     if value {
         return 0xffff_ffff_ffff_ffff;
@@ -257,7 +257,7 @@ pub fn all_clear(m: &[u8], a: usize, e: usize) -> bool
 
 // A bit as a number.
 fn one_if(bit: bool) -> usize
-    ensures { result ≡ (if bit then 1 else 0) }
+    ensures { result ≡ (pick bit then 1 else 0) }
 {
     if bit {
         return 1;

@@ -11,7 +11,7 @@ use borrow.Author.Tests.{lt-ltb, le-ltb}
 use lib.Bits.{bit_and, and_lt}
 use lib.Dec.{ltb}
 use lib.ListN.{length, get_or}
-use Rattle.rules.specs.Lists.{if◌then◌else◌}
+use Rattle.rules.specs.Lists.{pick◌then◌else◌}
 use Rattle.rules.specs.Bytes.{Bytes, le, le_digits, part, patch, bit_set, bit_bytes}
 use Rattle.rules.proofs.ListLaws.{if-true, if-false}
 use Rattle.rules.proofs.ByteLaws.{length-le_digits, bytes-le_digits, bytes-patch, length-patch, part-patch, get_or-patch-before, get_or-patch-behind, le-le_digits-fits, le-part-lt}
@@ -24,7 +24,7 @@ use Rattle.bitmap.proofs.MapLaws.{bit_set-is, word-bit}
 
 -- the bits before byte i are cleared, the others are as they were
 abbrev pub Cleared : List ℕ → List ℕ → ℕ → List ℕ → Type 0
-Cleared m₀ x i m = (k : ℕ) → bit_set m k ≡ (if ltb k (8 * i) then only m₀ x k else bit_set m₀ k)
+Cleared m₀ x i m = (k : ℕ) → bit_set m k ≡ (pick ltb k (8 * i) then only m₀ x k else bit_set m₀ k)
 
 -- before the first word
 cleared-yet : (m x : List ℕ) → Cleared m x 0 m
@@ -96,7 +96,7 @@ module _ (m₀ x m : List ℕ) (i : ℕ) (c : Bytes m) (d : Bytes x) (n : length
           stored-inside m i w c h w-lt k u v ∙ bit-and a (2 ^ 64 - 1 - b) (k - 8 * i)
           ∙ ap₂ ◌&&◌ (p ∙ r) (bit_not 64 b (k - 8 * i) b_lt (omega arith) ∙ ap not q) ∙ (unfold only in refl)
 
-      go : Dec (k < 8 * i) → Dec (k < 8 * (i + 8)) → bit_set (patch m i (le_digits 8 w)) k ≡ (if ltb k (8 * (i + 8)) then only m₀ x k else bit_set m₀ k)
+      go : Dec (k < 8 * i) → Dec (k < 8 * (i + 8)) → bit_set (patch m i (le_digits 8 w)) k ≡ (pick ltb k (8 * (i + 8)) then only m₀ x k else bit_set m₀ k)
       go (yes l) q =
           stored-outside m i w c h k (λ u v. absurd (omega arith)) ∙ g k ∙ if-true (ltb k (8 * i)) (only m₀ x k) (bit_set m₀ k) (lt-ltb k (8 * i) l)
           ∙ sym (if-true (ltb k (8 * (i + 8))) (only m₀ x k) (bit_set m₀ k) (lt-ltb k (8 * (i + 8)) (omega arith)))

@@ -11,7 +11,7 @@ use lib.Bits.{bit_and, bit_or, and_lt}
 use lib.Dec.{eqb}
 use lib.ListN.{length}
 use lib.Pow.{pow_pos, shl-shr, shr-shr, mod-pow-add}
-use Rattle.rules.specs.Lists.{if◌then◌else◌, all, range}
+use Rattle.rules.specs.Lists.{pick◌then◌else◌, all, range}
 use Rattle.rules.specs.Bytes.{le, part, Bytes, bit_set}
 use Rattle.rules.proofs.ListLaws.{and_left, and_right, and_intro, all_append, all-range-at, all-range-of, range-add}
 use Rattle.bitmap.specs.Map.{bit_of}
@@ -99,7 +99,7 @@ equal-says x y b f g = same_tests (eqb x y) b (λ e. f (eqb-true x y e)) (λ e. 
 
 -- every bit of the word of ones is set
 bit-ones : (j : ℕ) → j < 64 → bit_of 0xffffffffffffffff j ≡ true
-bit-ones j h = unfold if◌then◌else◌ in bit-alike true j h
+bit-ones j h = unfold pick◌then◌else◌ in bit-alike true j h
 
 -- the test of n bits of a word, that all are set
 pub set-part : (w s n : ℕ) → n ≤ 64 → eqb (w / 2 ^ s * 2 ^ (64 - n) % 2 ^ 64) (0xffffffffffffffff * 2 ^ (64 - n) % 2 ^ 64) ≡ all (bit_of w) (range s n)

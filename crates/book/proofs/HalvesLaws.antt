@@ -10,7 +10,7 @@ use native.Mathlib.Omega.{arith}
 use borrow.Author.Tests.{eqb-true, eqb-false, eq-eqb, ne_eqb, ltb-true, ltb-false, leb-true, le-leb, le-ltb}
 use lib.Dec.{eqb, leb, ltb}
 use lib.ListN.{length}
-use Rattle.rules.specs.Lists.{if◌then◌else◌, ascending, pair_before}
+use Rattle.rules.specs.Lists.{pick◌then◌else◌, ascending, pair_before}
 use Rattle.rules.specs.Bytes.{Bytes, be, part}
 use Rattle.rules.specs.Sizes.{most_places}
 use Rattle.rules.specs.Card.{card_bytes, decode_card, card_before}
@@ -293,7 +293,7 @@ module _ {object block n : ℕ} {s : List ℕ} {found : Found} {place rounds : �
   pub searched-own : (i : ℕ) → found ≡ At i → (place ≡ i + 1) × ((record_at decode_extent extent_bytes s i).object ≡ object)
   unfolding place_of
   searched-own i e =
-      let a : some i ≡ (if own_before object s place then some (place - 1) else none) = rw e at h.answer in
+      let a : some i ≡ (pick own_before object s place then some (place - 1) else none) = rw e at h.answer in
       test-cases ((place ≡ i + 1) × ((record_at decode_extent extent_bytes s i).object ≡ object)) (own_before object s place)
       (λ t. let q : some i ≡ some (place - 1) = a ∙ if-true (own_before object s place) (some (place - 1)) none t in
       let k : i ≡ place - 1 = cc in
@@ -305,7 +305,7 @@ module _ {object block n : ℕ} {s : List ℕ} {found : Found} {place rounds : �
   pub searched-other : found ≡ Nothing → 0 < place → (record_at decode_extent extent_bytes s (place - 1)).object ≡ object → ⊥
   unfolding place_of
   searched-other e l =
-      let a : none ≡ (if own_before object s place then some (place - 1) else none) = rw e at h.answer in
+      let a : none ≡ (pick own_before object s place then some (place - 1) else none) = rw e at h.answer in
       test-cases ((record_at decode_extent extent_bytes s (place - 1)).object ≡ object → ⊥) (own_before object s place)
       (λ t. let q : none ≡ some (place - 1) = a ∙ if-true (own_before object s place) (some (place - 1)) none t in let z : ◌≡◌ {A = ℕ} 0 1 = cc in absurd (omega arith))
       (λ t. not_own object s place false (sym t ∙ sym (own_same object s place)) refl l)

@@ -10,7 +10,7 @@ use borrow.Author.Count.{below_more}
 use borrow.Author.Tests.{eq-eqb, ne_eqb, not-false}
 use lib.Dec.{eqb}
 use lib.ListN.{length, get_or}
-use Rattle.rules.specs.Lists.{if◌then◌else◌, maybe, any, filter}
+use Rattle.rules.specs.Lists.{pick◌then◌else◌, maybe, any, filter}
 use Rattle.rules.specs.Bytes.{part}
 use Rattle.rules.specs.Card.{card_bytes, decode_card}
 use Rattle.rules.specs.Extent.{extent_bytes, decode_extent, covers}
@@ -35,26 +35,26 @@ module _ {A : Type 0} (f : A → Bool) (d : A) where
 
   -- then none is the first
   first-none : (xs : List A) → ((j : ℕ) → j < length xs → f (get_or xs j d) ≡ false) → first_place f xs ≡ none
-  unfolding first_place if◌then◌else◌ maybe
+  unfolding first_place pick◌then◌else◌ maybe
   first-none [] h = refl
   first-none (x ∷ xs) h = rw (h 0 (omega arith), first-none xs (λ j l. h (suc j) (omega arith))) refl
 
   -- an element passes, and none in front of it
   first-at : (xs : List A) (i : ℕ) → i < length xs → f (get_or xs i d) ≡ true → ((j : ℕ) → j < i → f (get_or xs j d) ≡ false) → first_place f xs ≡ some i
-  unfolding first_place if◌then◌else◌ maybe
+  unfolding first_place pick◌then◌else◌ maybe
   first-at [] i l t h = absurd (omega arith)
   first-at (x ∷ xs) zero l t h = rw t refl
   first-at (x ∷ xs) (suc i) l t h = rw (h 0 (omega arith), first-at xs i (omega arith) t (λ j m. h (suc j) (omega arith))) refl
 
   -- no element passes, so none is the last
   last_none : (xs : List A) → ((j : ℕ) → j < length xs → f (get_or xs j d) ≡ false) → last_place f xs ≡ none
-  unfolding last_place if◌then◌else◌ maybe
+  unfolding last_place pick◌then◌else◌ maybe
   last_none [] h = refl
   last_none (x ∷ xs) h = rw (last_none xs (λ j l. h (suc j) (omega arith)), h 0 (omega arith)) refl
 
   -- an element passes, and none behind it
   last-at : (xs : List A) (i : ℕ) → i < length xs → f (get_or xs i d) ≡ true → ((j : ℕ) → suc i ≤ j → j < length xs → f (get_or xs j d) ≡ false) → last_place f xs ≡ some i
-  unfolding last_place if◌then◌else◌ maybe
+  unfolding last_place pick◌then◌else◌ maybe
   last-at [] i l t h = absurd (omega arith)
   last-at (x ∷ xs) zero l t h = rw (last_none xs (λ j m. h (suc j) (omega arith) (omega arith)), t) refl
   last-at (x ∷ xs) (suc i) l t h = rw (last-at xs i (omega arith) t (λ j m n. h (suc j) (omega arith) (omega arith))) refl
@@ -75,7 +75,7 @@ module _ {A : Type 0} (f : A → Bool) (d : A) where
 
   -- so many pass in front of the first that does not
   leading-is : (xs : List A) (i : ℕ) → i ≤ length xs → ((j : ℕ) → j < i → f (get_or xs j d) ≡ true) → (i < length xs → f (get_or xs i d) ≡ false) → leading f xs ≡ i
-  unfolding leading if◌then◌else◌
+  unfolding leading pick◌then◌else◌
   leading-is [] i l h g = omega arith
   leading-is (x ∷ xs) zero l h g = rw (g (omega arith)) refl
   leading-is (x ∷ xs) (suc i) l h g = rw (h 0 (omega arith), leading-is xs i (omega arith) (λ j m. h (suc j) (omega arith)) (λ m. g (omega arith))) refl
@@ -95,7 +95,7 @@ module _ {A : Type 0} (f : A → Bool) (d : A) where
   unfolding leading
   leading-fails [] l = absurd (omega arith)
   leading-fails (x ∷ xs) l =
-      test-cases (f (get_or (x ∷ xs) (if f x then suc (leading f xs) else 0) d) ≡ false) (f x)
+      test-cases (f (get_or (x ∷ xs) (pick f x then suc (leading f xs) else 0) d) ≡ false) (f x)
       (λ t. rw (if-true (f x) (suc (leading f xs)) 0 t) (leading-fails xs (omega (arith, rw (if-true (f x) (suc (leading f xs)) 0 t) at l))))
       (λ t. rw (if-false (f x) (suc (leading f xs)) 0 t) t)
 

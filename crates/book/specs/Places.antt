@@ -2,7 +2,7 @@
 -- Assumes nothing.
 use Rattle.std.specs.Prelude.{◌≡◌, Bool, true, ◌&&◌, not, List, [], ◌∷◌, ◌++◌, ℕ, suc, ◌+◌, ◌-◌, ◌*◌, ◌≤◌, ◌<◌, eqb, leb, ltb, length, take, drop}
 use Rattle.std.proofs.Math.Option.{Option, none, some}
-use Rattle.rules.specs.Lists.{if◌then◌else◌, maybe, find, pair_before}
+use Rattle.rules.specs.Lists.{pick◌then◌else◌, maybe, find, pair_before}
 use Rattle.rules.specs.Bytes.{part, pieces}
 use Rattle.rules.specs.Card.{Card}
 use Rattle.rules.specs.Extent.{Extent, extent_bytes, decode_extent, extent_before}
@@ -34,17 +34,17 @@ place_of Nothing = none
 -- the place of the first element that passes the test
 unfoldable pub first_place : {A : Type 0} → (A → Bool) → List A → Option ℕ
 first_place f [] = none
-first_place f (x ∷ xs) = if f x then some 0 else maybe none (λ i. some (suc i)) (first_place f xs)
+first_place f (x ∷ xs) = pick f x then some 0 else maybe none (λ i. some (suc i)) (first_place f xs)
 
 -- the place of the last
 unfoldable pub last_place : {A : Type 0} → (A → Bool) → List A → Option ℕ
 last_place f [] = none
-last_place f (x ∷ xs) = maybe (if f x then some 0 else none) (λ i. some (suc i)) (last_place f xs)
+last_place f (x ∷ xs) = maybe (pick f x then some 0 else none) (λ i. some (suc i)) (last_place f xs)
 
 -- how many elements pass the test in front of the first that does not
 unfoldable pub leading : {A : Type 0} → (A → Bool) → List A → ℕ
 leading f [] = 0
-leading f (x ∷ xs) = if f x then suc (leading f xs) else 0
+leading f (x ∷ xs) = pick f x then suc (leading f xs) else 0
 
 -- the first record that passes the test was found
 pub record FoundFirst {A : Type 0} (f : A → Bool) (decode : List ℕ → A) (w n : ℕ) (s : List ℕ) (r : Found) : Type 0 where
@@ -94,7 +94,7 @@ pub record SearchedBook (object block n : ℕ) (s : List ℕ) (found : Found) (p
   pub most : rounds ≤ 20
   pub looks : rounds ≡ length (looked (reached_at object block s) n)
   pub ends : place ≡ ends_at (reached_at object block s) 0 (looked (reached_at object block s) n)
-  pub answer : place_of found ≡ (if own_before object s place then some (place - 1) else none)
+  pub answer : place_of found ≡ (pick own_before object s place then some (place - 1) else none)
 
 -- the group with a key
 abbrev pub group_is : ℕ → ℕ → Group → Bool

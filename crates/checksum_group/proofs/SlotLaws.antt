@@ -16,7 +16,7 @@ use lib.Dec.{eqb, eqb-suc-zero}
 use lib.ListN.{length, take, drop, get_or, set, replicate, length-append, length-set, length-map, length-replicate}
 use lib.Pow.{pow_mono, high, shl_exact}
 use lib.Seq.{ext_get_or, get_or-set_same, get_or-set_other, take-suc, take_all, take-take, drop-drop, length-take-le}
-use Rattle.rules.specs.Lists.{if◌then◌else◌, maybe, given, range, all}
+use Rattle.rules.specs.Lists.{pick◌then◌else◌, maybe, given, range, all}
 use Rattle.rules.specs.Bytes.{Bytes, be, le, le_digits, part, patch, pieces, bit_set}
 use Rattle.rules.specs.Group.{Group, group_bytes, group_key, presence, slot_bytes, slot_values, presence_bits, decode_group, encode_group, absent_zero, group_fixed, up_to_present, compact_group}
 use Rattle.rules.proofs.ListLaws.{Each, each-any, if-cases, if-true, if-false, or_left, all-at, all_of, all-range-at, all-range-of, length-range, length-zip_with, get_d_map, get_or-map-range, get_or-zip_with}
@@ -31,7 +31,7 @@ use Rattle.rules.proofs.CountLaws.{flat_map-append}
 
 -- the slot of a presence bit and a value
 abbrev slot_if : Bool → ℕ → Option ℕ
-slot_if present crc = if present then some crc else none
+slot_if present crc = pick present then some crc else none
 
 -- ---- the slots, one by one
 
@@ -51,7 +51,7 @@ get_or-slots p v i e l =
 
 -- a slot is present where its bit is set
 given-slot_if : (b : Bool) (x : ℕ) → given (slot_if b x) ≡ b
-unfolding given if◌then◌else◌
+unfolding given pick◌then◌else◌
 given-slot_if true x = refl
 given-slot_if false x = refl
 
@@ -129,20 +129,20 @@ bit-and a b j = rw (and_shr a b j) (low (a / 2 ^ j) (b / 2 ^ j))
 
 -- bit j of the byte that has bit k alone
 one_right : ℕ → ℕ → Bool
-one_right k j = eqb (2 ^ k / 2 ^ j % 2) (if eqb j k then 1 else 0)
+one_right k j = eqb (2 ^ k / 2 ^ j % 2) (pick eqb j k then 1 else 0)
 
 -- the same of the byte that has all bits but k
 rest_right : ℕ → ℕ → Bool
-rest_right k j = eqb ((2 ^ 8 - 1 - 2 ^ k) / 2 ^ j % 2) (if eqb j k then 0 else 1)
+rest_right k j = eqb ((2 ^ 8 - 1 - 2 ^ k) / 2 ^ j % 2) (pick eqb j k then 0 else 1)
 
 -- the 64 cases of the one
 one_table : all (λ k. all (one_right k) (range 0 8)) (range 0 8) ≡ true
-unfolding all range one_right if◌then◌else◌
+unfolding all range one_right pick◌then◌else◌
 one_table = refl
 
 -- and of the other
 rest-table : all (λ k. all (rest_right k) (range 0 8)) (range 0 8) ≡ true
-unfolding all range rest_right if◌then◌else◌
+unfolding all range rest_right pick◌then◌else◌
 rest-table = refl
 
 -- a table at a place
@@ -151,14 +151,14 @@ at_table f t k j l m =
     ap (f k) (sym (zero-add j)) ∙ all-range-at (f k) 0 8 (rw (zero-add k) at (all-range-at (λ x. all (f x) (range 0 8)) 0 8 t k l)) j m
 
 -- so only bit k of it is set
-one_bit : (k j : ℕ) → k < 8 → j < 8 → 2 ^ k / 2 ^ j % 2 ≡ (if eqb j k then 1 else 0)
+one_bit : (k j : ℕ) → k < 8 → j < 8 → 2 ^ k / 2 ^ j % 2 ≡ (pick eqb j k then 1 else 0)
 unfolding one_right
-one_bit k j l m = eqb-true (2 ^ k / 2 ^ j % 2) (if eqb j k then 1 else 0) (at_table one_right one_table k j l m)
+one_bit k j l m = eqb-true (2 ^ k / 2 ^ j % 2) (pick eqb j k then 1 else 0) (at_table one_right one_table k j l m)
 
 -- and here only bit k is not
-rest-bit : (k j : ℕ) → k < 8 → j < 8 → (2 ^ 8 - 1 - 2 ^ k) / 2 ^ j % 2 ≡ (if eqb j k then 0 else 1)
+rest-bit : (k j : ℕ) → k < 8 → j < 8 → (2 ^ 8 - 1 - 2 ^ k) / 2 ^ j % 2 ≡ (pick eqb j k then 0 else 1)
 unfolding rest_right
-rest-bit k j l m = eqb-true ((2 ^ 8 - 1 - 2 ^ k) / 2 ^ j % 2) (if eqb j k then 0 else 1) (at_table rest_right rest-table k j l m)
+rest-bit k j l m = eqb-true ((2 ^ 8 - 1 - 2 ^ k) / 2 ^ j % 2) (pick eqb j k then 0 else 1) (at_table rest_right rest-table k j l m)
 
 -- a byte stored in a map leaves the bits alone that it does not change
 module _ (m : List ℕ) (n v : ℕ) (h : n < 8 * length m) where
@@ -185,27 +185,27 @@ pub set_here : (m : List ℕ) (n : ℕ) → n < 8 * length m → bit_set (set m 
 set_here m n h =
     bit-here m n (bit_or (get_or m (n / 8) 0) (1 * 2 ^ (n % 8) % 2 ^ 8)) h true
     (rw (shifted n, bit-or (get_or m (n / 8) 0) (2 ^ (n % 8)) (n % 8), one_bit (n % 8) (n % 8) (omega arith) (omega arith), eq-eqb (n % 8) (n % 8) refl)
-    (unfold if◌then◌else◌ in eq-eqb (max (get_or m (n / 8) 0 / 2 ^ (n % 8) % 2) 1) 1 (omega (arith, mod-lt (get_or m (n / 8) 0 / 2 ^ (n % 8)) {m = 2} (omega arith)))))
+    (unfold pick◌then◌else◌ in eq-eqb (max (get_or m (n / 8) 0 / 2 ^ (n % 8) % 2) 1) 1 (omega (arith, mod-lt (get_or m (n / 8) 0 / 2 ^ (n % 8)) {m = 2} (omega arith)))))
 
 -- any other bit is as it was
 pub set_there : (m : List ℕ) (n : ℕ) → n < 8 * length m → (i : ℕ) → (i ≡ n → ⊥) → bit_set (set m (n / 8) (bit_or (get_or m (n / 8) 0) (1 * 2 ^ (n % 8) % 2 ^ 8))) i ≡ bit_set m i
 set_there m n h =
     bit-there m n (bit_or (get_or m (n / 8) 0) (1 * 2 ^ (n % 8) % 2 ^ 8)) h
-    (λ j l d. rw (shifted n, bit-or (get_or m (n / 8) 0) (2 ^ (n % 8)) j, one_bit (n % 8) j (omega arith) l, ne_eqb j (n % 8) d) (unfold if◌then◌else◌ in omega arith))
+    (λ j l d. rw (shifted n, bit-or (get_or m (n / 8) 0) (2 ^ (n % 8)) j, one_bit (n % 8) j (omega arith) l, ne_eqb j (n % 8) d) (unfold pick◌then◌else◌ in omega arith))
 
 -- the bit cleared
 pub clear-here : (m : List ℕ) (n : ℕ) → n < 8 * length m → bit_set (set m (n / 8) (bit_and (get_or m (n / 8) 0) (2 ^ 8 - 1 - 1 * 2 ^ (n % 8) % 2 ^ 8))) n ≡ false
 clear-here m n h =
     bit-here m n (bit_and (get_or m (n / 8) 0) (2 ^ 8 - 1 - 1 * 2 ^ (n % 8) % 2 ^ 8)) h false
     (rw (shifted n, bit-and (get_or m (n / 8) 0) (2 ^ 8 - 1 - 2 ^ (n % 8)) (n % 8), rest-bit (n % 8) (n % 8) (omega arith) (omega arith), eq-eqb (n % 8) (n % 8) refl)
-    (unfold if◌then◌else◌ in ne_eqb (min (get_or m (n / 8) 0 / 2 ^ (n % 8) % 2) 0) 1 (λ e. omega arith)))
+    (unfold pick◌then◌else◌ in ne_eqb (min (get_or m (n / 8) 0 / 2 ^ (n % 8) % 2) 0) 1 (λ e. omega arith)))
 
 -- any other bit is as it was
 pub clear-there : (m : List ℕ) (n : ℕ) → n < 8 * length m → (i : ℕ) → (i ≡ n → ⊥) → bit_set (set m (n / 8) (bit_and (get_or m (n / 8) 0) (2 ^ 8 - 1 - 1 * 2 ^ (n % 8) % 2 ^ 8))) i ≡ bit_set m i
 clear-there m n h =
     bit-there m n (bit_and (get_or m (n / 8) 0) (2 ^ 8 - 1 - 1 * 2 ^ (n % 8) % 2 ^ 8)) h
     (λ j l d. rw (shifted n, bit-and (get_or m (n / 8) 0) (2 ^ 8 - 1 - 2 ^ (n % 8)) j, rest-bit (n % 8) j (omega arith) l, ne_eqb j (n % 8) d)
-    (unfold if◌then◌else◌ in omega (arith, mod-lt (get_or m (n / 8) 0 / 2 ^ j) {m = 2} (omega arith))))
+    (unfold pick◌then◌else◌ in omega (arith, mod-lt (get_or m (n / 8) 0 / 2 ^ j) {m = 2} (omega arith))))
 
 -- the slots after one bit and one value are set
 slots_set : (p q v : List ℕ) (n x : ℕ) (b : Bool) → length v ≡ 256 → n < 256 → bit_set q n ≡ b → ((i : ℕ) → (i ≡ n → ⊥) → bit_set q i ≡ bit_set p i) → slots_from q (set v n x) ≡ set (slots_from p v) n (slot_if b x)
@@ -227,14 +227,14 @@ pub with-slot : (p v : List ℕ) (n x : ℕ) → length p ≡ 32 → length v �
     → slots_from (set p (n / 8) (bit_or (get_or p (n / 8) 0) (1 * 2 ^ (n % 8) % 2 ^ 8))) (set v n x) ≡ set (slots_from p v) n (some x)
 with-slot p v n x m e l =
     slots_set p (set p (n / 8) (bit_or (get_or p (n / 8) 0) (1 * 2 ^ (n % 8) % 2 ^ 8))) v n x true e l (set_here p n (omega arith)) (set_there p n (omega arith))
-    ∙ (unfold if◌then◌else◌ in refl)
+    ∙ (unfold pick◌then◌else◌ in refl)
 
 -- and where it clears a slot
 pub without-slot : (p v : List ℕ) (n x : ℕ) → length p ≡ 32 → length v ≡ 256 → n < 256
     → slots_from (set p (n / 8) (bit_and (get_or p (n / 8) 0) (2 ^ 8 - 1 - 1 * 2 ^ (n % 8) % 2 ^ 8))) (set v n x) ≡ set (slots_from p v) n none
 without-slot p v n x m e l =
     slots_set p (set p (n / 8) (bit_and (get_or p (n / 8) 0) (2 ^ 8 - 1 - 1 * 2 ^ (n % 8) % 2 ^ 8))) v n x false e l (clear-here p n (omega arith)) (clear-there p n (omega arith))
-    ∙ (unfold if◌then◌else◌ in refl)
+    ∙ (unfold pick◌then◌else◌ in refl)
 
 -- ---- up to the last present slot
 
@@ -262,7 +262,7 @@ module _ (p : List ℕ) where
 
 -- where the last present slot stands right before c
 pub up_to-is : (ss : List (Option ℕ)) (c : ℕ) → c ≤ length ss → ((i : ℕ) → c ≤ i → i < length ss → given (get_or ss i none) ≡ false) → ((k : ℕ) → c ≡ suc k → given (get_or ss k none) ≡ true) → up_to_present ss ≡ c
-unfolding up_to_present if◌then◌else◌
+unfolding up_to_present pick◌then◌else◌
 up_to-is [] c l f g = omega arith
 up_to-is (s ∷ ss) zero l f g =
     let r : up_to_present ss ≡ 0 = up_to-is ss zero (omega arith) (λ i a b. f (suc i) (omega arith) (omega arith)) (λ k e. absurd (omega arith)) in
@@ -339,7 +339,7 @@ unfolding up_to_present
 up_to-le [] = omega arith
 up_to-le (s ∷ ss) =
     let r : up_to_present ss ≤ length ss = up_to-le ss in
-    if-cases (λ n. n ≤ length (s ∷ ss)) (eqb (up_to_present ss) 0) (if given s then 1 else 0) (suc (up_to_present ss))
+    if-cases (λ n. n ≤ length (s ∷ ss)) (eqb (up_to_present ss) 0) (pick given s then 1 else 0) (suc (up_to_present ss))
     (λ e. if-cases (λ n. n ≤ length (s ∷ ss)) (given s) 1 0 (λ d. omega arith) (λ d. omega arith))
     (λ e. omega arith)
 
@@ -422,12 +422,12 @@ module _ (s : List ℕ) (at n : ℕ) (l : n < 256) where
   module _ (m : Bool) (e : m ≡ eqb (get_or s (at + 17 + n / 8) 0 / 2 ^ (n % 8) % 2) 1) where
     -- a slot whose bit was found set
     pub read-present : (x : ℕ) → m ≡ true → x ≡ le (part (at + 49 + 4 * n) 4 s) → some x ≡ get_or (decode_group (part at group_bytes s)).slots n none
-    unfolding if◌then◌else◌
+    unfolding pick◌then◌else◌
     read-present x t v = sym (slot-at-place ∙ rw (← e, t, ← v) refl)
 
     -- and one whose bit was not
     pub read-absent : m ≡ false → none ≡ get_or (decode_group (part at group_bytes s)).slots n none
-    unfolding if◌then◌else◌
+    unfolding pick◌then◌else◌
     read-absent t = sym (slot-at-place ∙ rw (← e, t) refl)
 
   -- the value where the bit is clear, and zero where it is set

@@ -3,7 +3,7 @@
 use Rattle.std.specs.Prelude.{◌≡◌, Bool, ◌||◌, ℕ, ◌-◌, ◌≤◌, ◌<◌, eqb, get_or, drop}
 use mathlib.Core.List.{List, ◌++◌, map, flat_map, zip_with}
 use Rattle.std.proofs.Math.Option.{Option, none, some}
-use Rattle.rules.specs.Lists.{if◌then◌else◌, maybe, range}
+use Rattle.rules.specs.Lists.{pick◌then◌else◌, maybe, range}
 use Rattle.rules.specs.Sizes.{group_units}
 use Rattle.rules.specs.Bytes.{le, part, pieces, bit_set}
 use Rattle.rules.specs.Group.{Group, presence, slot_bytes, slot_values}
@@ -22,7 +22,7 @@ slot_width = 4
 -- the slots of presence bytes and slot values: present where the bit is set, whatever value stands where it is not
 unfoldable pub slots_from : List ℕ → List ℕ → List (Option ℕ)
 slots_from present values =
-    zip_with (λ bit crc. if bit then some crc else none) (map (bit_set present) (range 0 group_units)) values
+    zip_with (λ bit crc. pick bit then some crc else none) (map (bit_set present) (range 0 group_units)) values
 
 -- the slots that a checksum group in hand says
 unfoldable pub slots_of : group.ChecksumGroup → List (Option ℕ)

@@ -8,7 +8,7 @@ use Prim.Native.Nat.{ℕ, ◌+◌}
 use lib.Dec.{eqb}
 use lib.ListN.{length}
 use borrow.Author.Tests.{eq-eqb, ne_eqb}
-use Rattle.rules.specs.Lists.{if◌then◌else◌, maybe}
+use Rattle.rules.specs.Lists.{pick◌then◌else◌, maybe}
 use Rattle.rules.specs.Sizes.{most_runs}
 use Rattle.rules.specs.Time.{Time}
 use Rattle.rules.specs.Card.{Card}

@@ -11,7 +11,7 @@ use lib.Dec.{eqb, ltb, leb}
 use borrow.Author.Tests.{lt-ltb, le-leb, eq-eqb, eqb-true, leb-true, ltb-true}
 use lib.ListN.{length, take, drop, get_or, length-drop}
 use lib.Seq.{drop-drop, length-take-le}
-use Rattle.rules.specs.Lists.{if◌then◌else◌, given, all, any, find, member, range, neighbours, ascending, begun}
+use Rattle.rules.specs.Lists.{pick◌then◌else◌, given, all, any, find, member, range, neighbours, ascending, begun}
 use Rattle.rules.specs.Sizes.{block_bytes, unit_blocks, unit_bytes, group_units, most_size}
 use Rattle.rules.specs.Bytes.{part}
 use Rattle.rules.specs.Card.{Card, card_before}
@@ -247,7 +247,7 @@ pub checked-group : (v : Volume) (object size unit : ℕ) (ys : List ℕ) → in
 unfolding inspect_unit
 checked-group v object size unit ys =
     maybe-cases (λ (i : Inspected). i ≡ checked ys → any (group_is object (unit / group_units)) v.books.groups ≡ true)
-    (if backed_under v object unit then damaged no_checksum else hole) (inspect_slot v object size unit) (checksum_of v object unit)
+    (pick backed_under v object unit then damaged no_checksum else hole) (inspect_slot v object size unit) (checksum_of v object unit)
     (λ n. if-cases (λ (i : Inspected). i ≡ checked ys → any (group_is object (unit / group_units)) v.books.groups ≡ true) (backed_under v object unit) (damaged no_checksum) hole
     (λ t e. let z : ◌≡◌ {A = ℕ} 0 1 = cc in absurd (omega arith)) (λ t e. let z : ◌≡◌ {A = ℕ} 0 1 = cc in absurd (omega arith)))
     (λ crc h e. slot-group v object unit crc h)

@@ -8,7 +8,7 @@ use Prim.Native.Nat.{ℕ, suc, ◌+◌, ◌-◌, ◌*◌, ◌^◌, ◌≤◌, �
 use native.Mathlib.Numerals.{add-one}
 use native.Mathlib.Omega.{arith}
 use lib.ListN.{length, take, drop, get_or, replicate, length-replicate, take-append-drop, get_or-replicate}
-use Rattle.rules.specs.Lists.{if◌then◌else◌, maybe, given, any, all, insert, ascending}
+use Rattle.rules.specs.Lists.{pick◌then◌else◌, maybe, given, any, all, insert, ascending}
 use Rattle.rules.specs.Sizes.{group_units}
 use Rattle.rules.specs.Bytes.{pieces, patch, padded, bit_bytes, byte_of, le_digits}
 use Rattle.rules.specs.Group.{Group, group_bytes, group_key, presence, slot_bytes, encode_group, decode_group, group_fixed, absent_zero, group_before, empty_group}
@@ -29,7 +29,7 @@ use Rattle.finish_books.proofs.GroupListLaws.{before-trans, group-is, empty-befo
 
 -- no slot is present in an empty group: its presence bytes are zero
 empty-presence : presence (replicate 256 none) ≡ replicate 32 0
-unfolding presence bit_bytes byte_of given if◌then◌else◌
+unfolding presence bit_bytes byte_of given pick◌then◌else◌
 empty-presence = refl
 
 -- and so are its slots

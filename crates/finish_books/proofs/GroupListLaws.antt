@@ -12,7 +12,7 @@ use lib.Dec.{eqb}
 use lib.ListN.{length, take, drop, get_or, length-map}
 use lib.Seq.{take-suc, length-take-le}
 use borrow.Author.Tests.{eqb-true, eq-eqb}
-use Rattle.rules.specs.Lists.{if◌then◌else◌, any, insert}
+use Rattle.rules.specs.Lists.{pick◌then◌else◌, any, insert}
 use Rattle.rules.specs.Sizes.{group_units}
 use Rattle.rules.specs.Group.{Group, group_before, empty_group, set_checksum_slot}
 use Rattle.rules.specs.Rewrite.{Rewritten}
@@ -192,7 +192,7 @@ module _ (object : ℕ) where
 module _ (object unit crc : ℕ) where
   -- a group with its slot set, where it is the unit's
   unfoldable pub slot_set : Group → Group
-  slot_set g = if is_group object (unit / group_units) g then set_checksum_slot g (unit % group_units) (some crc) else g
+  slot_set g = pick is_group object (unit / group_units) g then set_checksum_slot g (unit % group_units) (some crc) else g
 
   -- the groups are the old ones, and the added one, put through it
   pub set_is : (gs : List Group) → set_slot object unit crc gs ≡ map slot_set (with_group object (unit / group_units) gs)

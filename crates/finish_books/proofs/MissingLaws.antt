@@ -8,7 +8,7 @@ use native.Mathlib.Decide.{dec_lt, ℕ_discrete}
 use native.Mathlib.Nat.{zero-add}
 use native.Mathlib.Omega.{arith}
 use lib.ListN.{length, get_or, length-map}
-use Rattle.rules.specs.Lists.{if◌then◌else◌, any, given, insert}
+use Rattle.rules.specs.Lists.{pick◌then◌else◌, any, given, insert}
 use Rattle.rules.specs.Sizes.{group_units}
 use Rattle.rules.specs.Bytes.{Bytes}
 use Rattle.rules.specs.Group.{Group, group_bytes, encode_group, decode_group, group_fixed, absent_zero, group_before, empty_group}
@@ -46,21 +46,21 @@ group-not-nothing n object number s r h e a = clash (found-there n object number
 
 -- found: it is not missing
 pub absent-no : (n object number : ℕ) (s : List ℕ) (r : Found) (i : ℕ) → FoundFirst (group_is object number) decode_group group_bytes n s r → r ≡ At i
-    → ◌≡◌ {A = ℕ} 0 (if any (group_is object number) (groups_in n s) then 0 else 1)
+    → ◌≡◌ {A = ℕ} 0 (pick any (group_is object number) (groups_in n s) then 0 else 1)
 unfolding found_in given
 absent-no n object number s r i h e =
     sym (if-true (any (group_is object number) (groups_in n s)) 0 1 (found-there n object number s r h ∙ ap (λ (f : Found). given (found_in decode_group group_bytes s f)) e))
 
 -- not found: it is
 pub absent-yes : (n object number : ℕ) (s : List ℕ) (r : Found) → FoundFirst (group_is object number) decode_group group_bytes n s r → r ≡ Nothing
-    → ◌≡◌ {A = ℕ} 1 (if any (group_is object number) (groups_in n s) then 0 else 1)
+    → ◌≡◌ {A = ℕ} 1 (pick any (group_is object number) (groups_in n s) then 0 else 1)
 unfolding found_in given
 absent-yes n object number s r h e =
     sym (if-false (any (group_is object number) (groups_in n s)) 0 1 (found-there n object number s r h ∙ ap (λ (f : Found). given (found_in decode_group group_bytes s f)) e))
 
 -- at most one
-pub absent-most : (b : Bool) (x : ℕ) → x ≡ (if b then 0 else 1) → x ≤ 1
-unfolding if◌then◌else◌
+pub absent-most : (b : Bool) (x : ℕ) → x ≡ (pick b then 0 else 1) → x ≤ 1
+unfolding pick◌then◌else◌
 absent-most true x e = omega arith
 absent-most false x e = omega arith
 
@@ -68,11 +68,11 @@ absent-most false x e = omega arith
 
 module _ (object a b : ℕ) (gs : List Group) where
   -- a number that is zero where the group is there
-  there-zero : (number x : ℕ) → x ≡ (if any (group_is object number) gs then 0 else 1) → any (group_is object number) gs ≡ true → x ≡ 0
+  there-zero : (number x : ℕ) → x ≡ (pick any (group_is object number) gs then 0 else 1) → any (group_is object number) gs ≡ true → x ≡ 0
   there-zero number x e t = e ∙ if-true (any (group_is object number) gs) 0 1 t
 
   -- and one where it is missing
-  missing-one : (number x : ℕ) → x ≡ (if any (group_is object number) gs then 0 else 1) → any (group_is object number) gs ≡ false → x ≡ 1
+  missing-one : (number x : ℕ) → x ≡ (pick any (group_is object number) gs then 0 else 1) → any (group_is object number) gs ≡ false → x ≡ 1
   missing-one number x e t = e ∙ if-false (any (group_is object number) gs) 0 1 t
 
   -- none is missing
@@ -94,7 +94,7 @@ module _ (object a b : ℕ) (gs : List Group) where
   added-one number x e = rw e refl
 
   -- a group that is missing or not, as it is counted
-  one-counted : (number x : ℕ) → x ≡ (if any (group_is object number) gs then 0 else 1) → Gone object number x gs × (added object number x gs ≡ with_group object number gs)
+  one-counted : (number x : ℕ) → x ≡ (pick any (group_is object number) gs then 0 else 1) → Gone object number x gs × (added object number x gs ≡ with_group object number gs)
   unfolding is_group
   one-counted number x e =
       test-cases (Gone object number x gs × (added object number x gs ≡ with_group object number gs)) (any (group_is object number) gs)
@@ -102,7 +102,7 @@ module _ (object a b : ℕ) (gs : List Group) where
       (λ t. (gone_one number x (missing-one number x e t) t, added-one number x (missing-one number x e t) ∙ sym (with-missing object number gs t)))
 
   -- both are one group
-  pub both_one : (x : ℕ) → a ≡ b → x ≡ (if any (group_is object a) gs then 0 else 1) → MissingOf object a b gs a x
+  pub both_one : (x : ℕ) → a ≡ b → x ≡ (pick any (group_is object a) gs then 0 else 1) → MissingOf object a b gs a x
   both_one x e q =
       let h = one-counted a x q in
       record {
@@ -113,7 +113,7 @@ module _ (object a b : ℕ) (gs : List Group) where
       }
 
   -- the first is there
-  pub second-alone : (x y : ℕ) → a ≤ b → x ≡ (if any (group_is object a) gs then 0 else 1) → x ≡ 0 → y ≡ (if any (group_is object b) gs then 0 else 1) → MissingOf object a b gs b y
+  pub second-alone : (x y : ℕ) → a ≤ b → x ≡ (pick any (group_is object a) gs then 0 else 1) → x ≡ 0 → y ≡ (pick any (group_is object b) gs then 0 else 1) → MissingOf object a b gs b y
   unfolding is_group
   second-alone x y l p z q =
       let h = one-counted b y q in
@@ -125,7 +125,7 @@ module _ (object a b : ℕ) (gs : List Group) where
       }
 
   -- the first is missing
-  pub first-missing : (x y : ℕ) → (a ≡ b → ⊥) → a ≤ b → b ≤ a + 1 → x ≡ (if any (group_is object a) gs then 0 else 1) → (x ≡ 0 → ⊥) → y ≡ (if any (group_is object b) gs then 0 else 1)
+  pub first-missing : (x y : ℕ) → (a ≡ b → ⊥) → a ≤ b → b ≤ a + 1 → x ≡ (pick any (group_is object a) gs then 0 else 1) → (x ≡ 0 → ⊥) → y ≡ (pick any (group_is object b) gs then 0 else 1)
       → MissingOf object a b gs a (1 + y)
   unfolding is_group added
   first-missing x y d l m p z q =

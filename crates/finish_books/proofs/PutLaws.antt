@@ -9,7 +9,7 @@ use native.Mathlib.Nat.{mul-one, mul-suc, mul-le-mul_left}
 use native.Mathlib.Omega.{arith}
 use lib.ListN.{length, drop, get_or, set}
 use lib.Seq.{take_all}
-use Rattle.rules.specs.Lists.{if◌then◌else◌, all, ascending}
+use Rattle.rules.specs.Lists.{pick◌then◌else◌, all, ascending}
 use Rattle.rules.specs.Bytes.{Bytes, part, pieces, patch}
 use Rattle.rules.specs.Book.{decode_book, encode_book}
 use Rattle.rules.proofs.ListLaws.{clash, test-cases, if-true, if-false, and_left, and_right, and_intro, all_append, Each, each_none, each_more, each_all, each_at, ascending-tail, ascending-all}
@@ -77,16 +77,16 @@ module _ {A : Type 0} (encode : A → List ℕ) (decode : List ℕ → A) (w : �
 module _ {A : Type 0} (before : A → A → Bool) (f : A → Bool) (φ : A → A)
     (trans : (x y z : A) → before x y ≡ true → before y z ≡ true → before x z ≡ true) (apart : (x y : A) → f x ≡ true → before x y ≡ true → f y ≡ false) where
   -- where the test passes at none, none is changed
-  map-none : {xs : List A} → Each (λ x. f x ≡ false) xs → map (λ x. if f x then φ x else x) xs ≡ xs
+  map-none : {xs : List A} → Each (λ x. f x ≡ false) xs → map (λ x. pick f x then φ x else x) xs ≡ xs
   map-none each_none = refl
   map-none (each_more {x = x} h r) = rw (if-false (f x) (φ x) x h, map-none r) refl
 
   -- in a list in order the element that passes the test is the only one that is changed
-  pub map-one : (xs : List A) (i : ℕ) (d : A) → ascending before xs ≡ true → i < length xs → f (get_or xs i d) ≡ true → map (λ x. if f x then φ x else x) xs ≡ set xs i (φ (get_or xs i d))
+  pub map-one : (xs : List A) (i : ℕ) (d : A) → ascending before xs ≡ true → i < length xs → f (get_or xs i d) ≡ true → map (λ x. pick f x then φ x else x) xs ≡ set xs i (φ (get_or xs i d))
   map-one [] i d a l t = absurd (omega arith)
   map-one (x ∷ xs) zero d a l t =
       rw (if-true (f x) (φ x) x t, map-none (each_all (before x) (λ y h. apart x y t h) xs (ascending-all before trans x xs a))) refl
   map-one (x ∷ xs) (suc i) d a l t =
-      test-cases (map (λ y. if f y then φ y else y) (x ∷ xs) ≡ set (x ∷ xs) (suc i) (φ (get_or xs i d))) (f x)
+      test-cases (map (λ y. pick f y then φ y else y) (x ∷ xs) ≡ set (x ∷ xs) (suc i) (φ (get_or xs i d))) (f x)
       (λ h. absurd (clash (each_at (each_all (before x) (λ y g. apart x y h g) xs (ascending-all before trans x xs a)) i d (omega arith)) t))
       (λ h. rw (if-false (f x) (φ x) x h, map-one xs i d (ascending-tail before x xs a) (omega arith) t) refl)

@@ -1,7 +1,7 @@
 -- What a change needs of single buffers, and what it leaves of them.
 -- Assumes nothing.
 use Rattle.std.specs.Prelude.{◌≡◌, Bool, true, not, ◌&&◌, List, [], ◌∷◌, ℕ, zero, suc, ◌+◌, ◌*◌, ◌≤◌, ◌<◌, eqb, length, get_or}
-use Rattle.rules.specs.Lists.{if◌then◌else◌, all, ascending}
+use Rattle.rules.specs.Lists.{pick◌then◌else◌, all, ascending}
 use Rattle.rules.specs.Bytes.{pieces}
 use Rattle.rules.specs.Head.{Head}
 use Rattle.rules.specs.Card.{card_bytes, decode_card, card_spare_zero, card_before}
@@ -48,4 +48,4 @@ pub record OldInside (bound : ℕ) (old : List ℕ) : Type 0 where
 
 -- a map in which a block is set, or not
 unfoldable pub marked_if : Bool → ℕ → List ℕ → List ℕ
-marked_if b n m = if b then with_bits true m n (n + 1) else m
+marked_if b n m = pick b then with_bits true m n (n + 1) else m

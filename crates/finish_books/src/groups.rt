@@ -4,7 +4,7 @@
 // behind them are moved once, and then the slots are set where they stand.
 ghost use Rattle.std.specs.Prelude.{◌≡◌, true, false, List, map, ℕ, ◌+◌, ◌*◌, ◌/◌, ◌^◌, ◌≤◌, ◌<◌, length, get_or};
 ghost use Rattle.std.proofs.Math.Option.{some};
-ghost use Rattle.rules.specs.Lists.{if◌then◌else◌, any};
+ghost use Rattle.rules.specs.Lists.{pick◌then◌else◌, any};
 ghost use Rattle.rules.specs.Sizes.{group_units};
 ghost use Rattle.rules.specs.Bytes.{part, patch};
 ghost use Rattle.rules.specs.Group.{Group, group_bytes, decode_group, encode_group, set_checksum_slot};
@@ -138,7 +138,7 @@ fn stretch(units: &[u64]) -> usize
 // One where a group is missing, and zero where it is there.
 fn absent(groups: &[u8], n: usize, object: u64, number: u64) -> usize
     requires { group_bytes * n ≤ length groups.now }
-    ensures { result ≡ (if any (group_is object number) (groups_in n groups.now) then 0 else 1) }
+    ensures { result ≡ (pick any (group_is object number) (groups_in n groups.now) then 0 else 1) }
 {
     let found = book::find::find_group(groups, n, object, number);
     if let Found::At(_) = found {

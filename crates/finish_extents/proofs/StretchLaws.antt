@@ -10,7 +10,7 @@ use native.Mathlib.Omega.{arith}
 use lib.Dec.{eqb, ltb}
 use lib.ListN.{length, take, drop}
 use borrow.Author.Tests.{eqb-true, eqb-false, eq-eqb, ne_eqb, ltb-true, lt-ltb}
-use Rattle.rules.specs.Lists.{if◌then◌else◌, any, member}
+use Rattle.rules.specs.Lists.{pick◌then◌else◌, any, member}
 use Rattle.rules.specs.Sizes.{unit_blocks}
 use Rattle.rules.specs.Extent.{Extent, extent_end, joined}
 use Rattle.rules.specs.Rewrite.{Rewritten}
@@ -94,7 +94,7 @@ from-from e b d l k =
 
 -- what is left of an extent without the blocks of object's file from a to b
 unfoldable pub cut_from : ℕ → ℕ → ℕ → Extent → List Extent
-cut_from object a b e = if eqb e.object object then part_before e a ++ part_from e b else e ∷ []
+cut_from object a b e = pick eqb e.object object then part_before e a ++ part_from e b else e ∷ []
 
 -- what is left of a book
 unfoldable pub cut_stretch : ℕ → ℕ → ℕ → List Extent → List Extent
@@ -249,42 +249,42 @@ cut-behind object a c (r ∷ rs) {es} l n u (each_more k m) h =
 
 -- what is before a block of the file of object
 unfoldable pub lower : ℕ → ℕ → Extent → List Extent
-lower object block e = if eqb e.object object then part_before e block else if ltb e.object object then e ∷ [] else []
+lower object block e = pick eqb e.object object then part_before e block else pick ltb e.object object then e ∷ [] else []
 
 -- what is not
 unfoldable pub upper : ℕ → ℕ → Extent → List Extent
-upper object block e = if eqb e.object object then part_from e block else if ltb object e.object then e ∷ [] else []
+upper object block e = pick eqb e.object object then part_from e block else pick ltb object e.object then e ∷ [] else []
 
 module _ (object block : ℕ) (e : Extent) where
   -- an extent of the file
   lower_in : e.object ≡ object → lower object block e ≡ part_before e block
   unfolding lower
-  lower_in q = if-true (eqb e.object object) (part_before e block) (if ltb e.object object then e ∷ [] else []) (eq-eqb e.object object q)
+  lower_in q = if-true (eqb e.object object) (part_before e block) (pick ltb e.object object then e ∷ [] else []) (eq-eqb e.object object q)
 
   upper_in : e.object ≡ object → upper object block e ≡ part_from e block
   unfolding upper
-  upper_in q = if-true (eqb e.object object) (part_from e block) (if ltb object e.object then e ∷ [] else []) (eq-eqb e.object object q)
+  upper_in q = if-true (eqb e.object object) (part_from e block) (pick ltb object e.object then e ∷ [] else []) (eq-eqb e.object object q)
 
   -- of a file before it
   lower-first : e.object < object → lower object block e ≡ e ∷ []
   unfolding lower
-  lower-first l = if-false (eqb e.object object) (part_before e block) (if ltb e.object object then e ∷ [] else []) (ne_eqb e.object object (λ q. omega arith))
+  lower-first l = if-false (eqb e.object object) (part_before e block) (pick ltb e.object object then e ∷ [] else []) (ne_eqb e.object object (λ q. omega arith))
       ∙ if-true (ltb e.object object) (e ∷ []) [] (lt-ltb e.object object l)
 
   upper_first : e.object < object → upper object block e ≡ []
   unfolding upper
-  upper_first l = if-false (eqb e.object object) (part_from e block) (if ltb object e.object then e ∷ [] else []) (ne_eqb e.object object (λ q. omega arith))
+  upper_first l = if-false (eqb e.object object) (part_from e block) (pick ltb object e.object then e ∷ [] else []) (ne_eqb e.object object (λ q. omega arith))
       ∙ test-cases _ (ltb object e.object) (λ t. absurd (omega (arith, ltb-true object e.object t))) (λ t. if-false (ltb object e.object) (e ∷ []) [] t)
 
   -- of a file behind it
   lower_last : object < e.object → lower object block e ≡ []
   unfolding lower
-  lower_last l = if-false (eqb e.object object) (part_before e block) (if ltb e.object object then e ∷ [] else []) (ne_eqb e.object object (λ q. omega arith))
+  lower_last l = if-false (eqb e.object object) (part_before e block) (pick ltb e.object object then e ∷ [] else []) (ne_eqb e.object object (λ q. omega arith))
       ∙ test-cases _ (ltb e.object object) (λ t. absurd (omega (arith, ltb-true e.object object t))) (λ t. if-false (ltb e.object object) (e ∷ []) [] t)
 
   upper-last : object < e.object → upper object block e ≡ e ∷ []
   unfolding upper
-  upper-last l = if-false (eqb e.object object) (part_from e block) (if ltb object e.object then e ∷ [] else []) (ne_eqb e.object object (λ q. omega arith))
+  upper-last l = if-false (eqb e.object object) (part_from e block) (pick ltb object e.object then e ∷ [] else []) (ne_eqb e.object object (λ q. omega arith))
       ∙ if-true (ltb object e.object) (e ∷ []) [] (lt-ltb object e.object l)
 
 -- what a stretch cut out leaves of an extent is what is before it and what is behind

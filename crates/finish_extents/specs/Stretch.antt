@@ -3,7 +3,7 @@
 use Rattle.std.specs.Prelude.{◌≡◌, Bool, true, false, ◌&&◌, ℕ, zero, suc, ◌+◌, ◌-◌, ◌*◌, ◌/◌, ◌%◌, ◌^◌, ◌≤◌, ◌<◌, min, eqb, ltb, leb, length, take, drop, get_or}
 use mathlib.Core.List.{List, [], ◌∷◌, ◌++◌, map, flat_map}
 use Rattle.std.proofs.Math.Option.{none}
-use Rattle.rules.specs.Lists.{if◌then◌else◌, all, member, range, neighbours, ascending}
+use Rattle.rules.specs.Lists.{pick◌then◌else◌, all, member, range, neighbours, ascending}
 use Rattle.rules.specs.Sizes.{unit_blocks}
 use Rattle.rules.specs.Bytes.{pieces}
 use Rattle.rules.specs.Extent.{Extent, extent_bytes, encode_extent, decode_extent, extent_fixed, extent_end, joins, mapping}
@@ -89,11 +89,11 @@ PushedAll n s xs m t = (es : List Extent) → Made n s es → Made m t (push_all
 
 -- an extent's part before a block of the file of object; one of another file is left whole
 unfoldable pub before : ℕ → ℕ → Extent → Extent
-before object block e = if eqb e.object object then up_to e (min (extent_end e) block) else e
+before object block e = pick eqb e.object object then up_to e (min (extent_end e) block) else e
 
 -- an extent's part from a block of the file of object on, if there is one
 unfoldable pub rest : ℕ → ℕ → Extent → List Extent
-rest object block e = if eqb e.object object then part_from e block else []
+rest object block e = pick eqb e.object object then part_from e block else []
 
 -- an extent is of the file of object and ends behind a block of it
 unfoldable pub reaches_past : ℕ → ℕ → Extent → Bool

@@ -1,7 +1,7 @@
 -- Whether the books that a change leaves fit into their buffers: refusals 15 and 16, and what is known where both fit.
 -- Assumes nothing.
 use Rattle.std.specs.Prelude.{◌≡◌, List, ℕ, ◌+◌, ◌-◌, ◌≤◌, ltb, length}
-use Rattle.rules.specs.Lists.{if◌then◌else◌}
+use Rattle.rules.specs.Lists.{pick◌then◌else◌}
 use Rattle.rules.specs.Extent.{extent_bytes}
 use Rattle.rules.specs.Group.{group_bytes}
 use Rattle.rules.specs.Book.{book_places}
@@ -13,11 +13,11 @@ use Rattle.finish_extents.specs.Stretch.{Describes, Finished}
 
 -- the number of the refusal of a book of extents of so many places, of which so many are wanted, or 0
 unfoldable pub extents_number : (places wanted : ℕ) → ℕ
-extents_number places wanted = if ltb places wanted then 16 else 0
+extents_number places wanted = pick ltb places wanted then 16 else 0
 
 -- that of a book of groups, or else the next one
 unfoldable pub groups_number : (places wanted next : ℕ) → ℕ
-groups_number places wanted next = if ltb places wanted then 15 else next
+groups_number places wanted next = pick ltb places wanted then 15 else next
 
 -- an exchange in a book of m extents leaves the finished ones, and it is told how many they are
 pub record Exchanges (object : ℕ) (us bs : List ℕ) (m : ℕ) (book : List ℕ) (place cut count : ℕ) (made : List ℕ) : Type 0 where

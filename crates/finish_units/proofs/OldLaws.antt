@@ -9,7 +9,7 @@ use native.Mathlib.Omega.{arith}
 use lib.Dec.{leb}
 use lib.ListN.{length, take, get_or}
 use lib.Seq.{take_at}
-use Rattle.rules.specs.Lists.{if◌then◌else◌, maybe, given, range, all, begun}
+use Rattle.rules.specs.Lists.{pick◌then◌else◌, maybe, given, range, all, begun}
 use Rattle.rules.specs.Sizes.{block_bytes, unit_blocks}
 use Rattle.rules.specs.Extent.{mapping}
 use Rattle.rules.specs.Store.{Volume, block_at}
@@ -69,7 +69,7 @@ module _ (v : Volume) (object size unit : ℕ) where
   unchecked xs e h =
       if-cases (λ (i : Inspected). i ≡ checked xs → ⊥) (backed_under v object unit) (damaged no_checksum) hole
       (λ t q. let z : ◌≡◌ {A = ℕ} 0 1 = cc in omega arith) (λ t q. let z : ◌≡◌ {A = ℕ} 0 1 = cc in omega arith)
-      (sym (maybe-none (if backed_under v object unit then damaged no_checksum else hole) (inspect_slot v object size unit) (checksum_of v object unit) e) ∙ h)
+      (sym (maybe-none (pick backed_under v object unit then damaged no_checksum else hole) (inspect_slot v object size unit) (checksum_of v object unit) e) ∙ h)
 
 -- ---- what a unit's old blocks hold
 

@@ -8,7 +8,7 @@ use native.Mathlib.Omega.{arith}
 use lib.Dec.{eqb, leb}
 use lib.ListN.{length, take, drop, replicate, length-take, length-replicate}
 use borrow.Author.Tests.{eq-eqb, ne_eqb, leb-true, not-false}
-use Rattle.rules.specs.Lists.{if◌then◌else◌}
+use Rattle.rules.specs.Lists.{pick◌then◌else◌}
 use Rattle.rules.specs.Checksum.{unit_checksum}
 use Rattle.rules.specs.Bytes.{part, patch, padded}
 use Rattle.rules.specs.Units.{Change, change_end, reads_old, touches, valid_length, written_from, written_to, written_part, assembled}
@@ -29,7 +29,7 @@ use Rattle.finish_units.specs.Units.{held_count, new_bytes, UnitWritten}
 module _ (c : Change) (unit slot : ℕ) where
   -- a unit without a checksum holds none
   pub held-hole : slot ≡ 0 → 0 ≡ held_count c unit slot
-  unfolding held_count if◌then◌else◌
+  unfolding held_count pick◌then◌else◌
   held-hole e = rw (eq-eqb slot 0 e) refl
 
   -- nor does one whose old bytes are not read
@@ -114,8 +114,8 @@ module _ (c : Change) (image : List ℕ) (unit slot : ℕ) (old : List ℕ) wher
   -- the bytes that are taken are the unit's new bytes
   pub taken-new : (before after start n : ℕ) (bytes s t : List ℕ) (b : Bool) (from : ℕ) → IsChange c before after start (length bytes) → ChangeFits before after start (length bytes)
       → unit * 65536 < after → c.bytes ≡ bytes → b ≡ covers_new c unit → n ≡ valid_length after unit → (b ≡ true → from ≡ unit * 65536 - start)
-      → (b ≡ false → take (valid_length after unit) t ≡ new_bytes c image unit slot old) → s ≡ (if b then part from n bytes else take n t) → s ≡ new_bytes c image unit slot old
-  unfolding new_bytes written_part change_end if◌then◌else◌
+      → (b ≡ false → take (valid_length after unit) t ≡ new_bytes c image unit slot old) → s ≡ (pick b then part from n bytes else take n t) → s ≡ new_bytes c image unit slot old
+  unfolding new_bytes written_part change_end pick◌then◌else◌
   taken-new before after start n bytes s t false from is fits l d e v f g h = h ∙ ap (λ (k : ℕ). take k t) v ∙ g refl
   taken-new before after start n bytes s t true from is fits l d e v f g h =
       let ends : change_end c ≤ c.new_size = rw (is.from, is.written, is.new) fits.inside in
@@ -130,7 +130,7 @@ module _ (c : Change) (image : List ℕ) (unit slot : ℕ) (old : List ℕ) wher
   -- so that the unit is written
   pub unit-written : (before after start n : ℕ) (bytes s t : List ℕ) (b : Bool) (from : ℕ) → IsChange c before after start (length bytes) → ChangeFits before after start (length bytes)
       → unit * 65536 < after → c.bytes ≡ bytes → b ≡ covers_new c unit → n ≡ valid_length after unit → (b ≡ true → (from ≡ unit * 65536 - start) × (from + valid_length after unit ≤ length bytes))
-      → (b ≡ false → take (valid_length after unit) t ≡ new_bytes c image unit slot old) → s ≡ (if b then part from n bytes else take n t)
+      → (b ≡ false → take (valid_length after unit) t ≡ new_bytes c image unit slot old) → s ≡ (pick b then part from n bytes else take n t)
       → (uuid : List ℕ) (object : ℕ) (kept blocks : List ℕ) (r : ℕ) (left : List ℕ) → r ≡ unit_checksum uuid object unit s → left ≡ write_new s 0 (entries kept) blocks image
       → UnitWritten c unit slot uuid object old kept blocks image r left
   unit-written before after start n bytes s t b from is fits l d e v f g h uuid object kept blocks r left x y =
@@ -141,7 +141,7 @@ module _ (c : Change) (image : List ℕ) (unit slot : ℕ) (old : List ℕ) wher
       }
 
 -- they are no more than a unit has
-pub taken-most : (b : Bool) (from n : ℕ) (bytes t s : List ℕ) → n ≤ 65536 → s ≡ (if b then part from n bytes else take n t) → length s ≤ 65536
+pub taken-most : (b : Bool) (from n : ℕ) (bytes t s : List ℕ) → n ≤ 65536 → s ≡ (pick b then part from n bytes else take n t) → length s ≤ 65536
 taken-most b from n bytes t s l e =
     rw e (if-cases (λ (w : List ℕ). length w ≤ 65536) b (part from n bytes) (take n t) (λ x. omega (arith, length-part-min bytes from n)) (λ x. rw length-take (omega arith)))
 

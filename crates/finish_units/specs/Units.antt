@@ -1,7 +1,7 @@
 -- The bytes that a rewritten unit gets, told by what was looked up of it, and what writing it does.
 -- Assumes nothing.
 use Rattle.std.specs.Prelude.{◌≡◌, not, ◌&&◌, List, ℕ, eqb, take}
-use Rattle.rules.specs.Lists.{if◌then◌else◌}
+use Rattle.rules.specs.Lists.{pick◌then◌else◌}
 use Rattle.rules.specs.Checksum.{unit_checksum}
 use Rattle.rules.specs.Units.{Change, reads_old, valid_length, assembled}
 use Rattle.rules.specs.Finish.{write_new}
@@ -10,7 +10,7 @@ use Rattle.image.specs.Blocks.{blocks_bytes}
 
 -- how many old bytes it is put together from: where they were read and the unit has a checksum, all valid ones
 unfoldable pub held_count : Change → (unit slot : ℕ) → ℕ
-held_count c unit slot = if not (eqb slot 0) && reads_old c unit then valid_length c.old_size unit else 0
+held_count c unit slot = pick not (eqb slot 0) && reads_old c unit then valid_length c.old_size unit else 0
 
 -- its new bytes, with the old ones taken out of an image
 unfoldable pub new_bytes : Change → (image : List ℕ) (unit slot : ℕ) (old : List ℕ) → List ℕ

@@ -11,7 +11,7 @@ use native.Mathlib.Omega.{arith}
 use borrow.Author.Tests.{eqb-true, eqb-false, eq-eqb, ne_eqb}
 use lib.Dec.{eqb}
 use lib.ListN.{length}
-use Rattle.rules.specs.Lists.{if◌then◌else◌}
+use Rattle.rules.specs.Lists.{pick◌then◌else◌}
 use Rattle.rules.specs.Sizes.{most_places}
 use Rattle.rules.proofs.ListLaws.{if-true, if-false, if-cases, test-cases, clash, Each, each_more}
 use Rattle.halving.specs.Halving.{looked_in, looked, ends_at, Parted}
@@ -234,13 +234,13 @@ looked-same f g n h = looked-same-in f g n 0 n h
 pub ends_same : (f g : ℕ → Bool) (low : ℕ) (is : List ℕ) → Each (λ i. f i ≡ g i) is → ends_at g low is ≡ ends_at f low is
 unfolding ends_at
 ends_same f g low [] h = refl
-ends_same f g low (i ∷ is) h = rw (← each_first h) (ends_same f g (if f i then i + 1 else low) is (each-rest h))
+ends_same f g low (i ∷ is) h = rw (← each_first h) (ends_same f g (pick f i then i + 1 else low) is (each-rest h))
 
 -- what holds where it began, and behind each place looked at, holds where it ends
 pub ends-each : (P Q : ℕ → Type 0) (f : ℕ → Bool) → ((i : ℕ) → P i → Q (i + 1)) → (low : ℕ) (is : List ℕ) → Q low → Each P is → Q (ends_at f low is)
 unfolding ends_at
 ends-each P Q f step low [] q h = q
-ends-each P Q f step low (i ∷ is) q h = ends-each P Q f step (if f i then i + 1 else low) is (if-cases Q (f i) (i + 1) low (λ t. step i (each_first h)) (λ t. q)) (each-rest h)
+ends-each P Q f step low (i ∷ is) q h = ends-each P Q f step (pick f i then i + 1 else low) is (if-cases Q (f i) (i + 1) low (λ t. step i (each_first h)) (λ t. q)) (each-rest h)
 
 -- ---- a search under way
 

@@ -1,7 +1,7 @@
 -- Extents held in an array, and the entry of a block by them.
 -- Assumes nothing.
 use Rattle.std.specs.Prelude.{◌≡◌, List, [], ◌∷◌, ℕ, zero, suc, ◌+◌, ◌≤◌, ◌<◌, length, get_or}
-use Rattle.rules.specs.Lists.{if◌then◌else◌}
+use Rattle.rules.specs.Lists.{pick◌then◌else◌}
 use Rattle.rules.specs.Sizes.{most_blocks}
 use Rattle.rules.specs.Extent.{covers, block_of}
 use Rattle.format.specs.declared.extent.Extent.{Extent}
@@ -22,7 +22,7 @@ pub record HeldRight (k : ℕ) (held : List Extent) : Type 0 where
 
 -- the entry of a block of object's file through one extent
 unfoldable pub entry_through : (object block : ℕ) → Extent → ℕ
-entry_through object block e = if covers object block (extent_of e) then block_of block (extent_of e) + 1 else 0
+entry_through object block e = pick covers object block (extent_of e) then block_of block (extent_of e) + 1 else 0
 
 -- an entry, or where it is 0 another
 unfoldable pub or_else : ℕ → ℕ → ℕ

@@ -11,7 +11,7 @@ use lib.Dec.{eqb, leb}
 use lib.ListN.{length, get_or, get_elem?}
 use borrow.Author.Tests.{eqb-true, eq-eqb, ne_eqb}
 use Rattle.rules.specs.Time.{Time}
-use Rattle.rules.specs.Lists.{if◌then◌else◌, given, range, all, any, member, ascending, begun}
+use Rattle.rules.specs.Lists.{pick◌then◌else◌, given, range, all, any, member, ascending, begun}
 use Rattle.rules.specs.Sizes.{block_bytes, unit_blocks, group_units}
 use Rattle.rules.specs.Bytes.{part, padded}
 use Rattle.rules.specs.Extent.{Extent, covers, block_of, mapping}
@@ -129,7 +129,7 @@ module _ {v : Volume} {c : Change} {rs : List Rewritten} (d : Carrying v c rs) w
   mapping-stays : (o b : ℕ) → (o ≡ c.object → Each (λ r. b / unit_blocks ≡ r.unit → ⊥) rs) → mapping (finished_extents c.object rs v.books.extents) o b ≡ mapping v.books.extents o b
   mapping-stays o b h =
       mapping-after c.object rs v.books.extents units-all apart-old o b
-      ∙ test-cases ((if eqb o c.object then new_mapping rs b (mapping v.books.extents o b) else mapping v.books.extents o b) ≡ mapping v.books.extents o b) (eqb o c.object)
+      ∙ test-cases ((pick eqb o c.object then new_mapping rs b (mapping v.books.extents o b) else mapping v.books.extents o b) ≡ mapping v.books.extents o b) (eqb o c.object)
       (λ t. if-true (eqb o c.object) _ _ t ∙ new_mapping-outside rs b (mapping v.books.extents o b) (outside_of b (h (eqb-true o c.object t))))
       (λ t. if-false (eqb o c.object) _ _ t)
 

@@ -12,7 +12,7 @@ use lib.Dec.{eqb, leb}
 use lib.ListN.{length, get_or, get_or-eq_default}
 use borrow.Author.Tests.{eqb-true, eq-eqb, ne_eqb, leb-true}
 use Rattle.rules.specs.Time.{Time}
-use Rattle.rules.specs.Lists.{if◌then◌else◌, maybe, given, find, count, member, begun}
+use Rattle.rules.specs.Lists.{pick◌then◌else◌, maybe, given, find, count, member, begun}
 use Rattle.rules.specs.Sizes.{block_bytes, unit_bytes}
 use Rattle.rules.specs.Card.{Card}
 use Rattle.rules.specs.Extent.{Extent, extent_end, mapping}
@@ -47,7 +47,7 @@ use Rattle.history.proofs.MoreLists.{count-all, each-mem, find-through, seen-thr
 module _ (object : ℕ) (f : List ℕ → List ℕ) where
   -- an array after the change
   unfoldable file_after : File → File
-  file_after a = if eqb a.object object then record { object = a.object; created = a.created; bytes = f a.bytes } else a
+  file_after a = pick eqb a.object object then record { object = a.object; created = a.created; bytes = f a.bytes } else a
 
   -- an array's object stays
   same_object : (a : File) → (file_after a).object ≡ a.object

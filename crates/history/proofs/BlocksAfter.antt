@@ -12,7 +12,7 @@ use lib.Dec.{eqb, leb}
 use lib.ListN.{length, get_or}
 use borrow.Author.Tests.{eq-eqb, ltb-true, ltb-false, lt-ltb, leb-true, le-leb, not-true}
 use Rattle.rules.specs.Time.{Time}
-use Rattle.rules.specs.Lists.{if◌then◌else◌, count, member}
+use Rattle.rules.specs.Lists.{pick◌then◌else◌, count, member}
 use Rattle.rules.specs.Sizes.{unit_blocks}
 use Rattle.rules.specs.Extent.{mapping}
 use Rattle.rules.specs.Store.{Volume}
@@ -65,16 +65,16 @@ pub record Sited (v : Volume) (b : ℕ) : Type 0 where
 -- ---- tallies
 
 -- a block becomes used that was not
-tally-used : (u m : Bool) → (m ≡ true → u ≡ false) → (if u || m then 0 else 1) + (if m then 1 else 0) ≡ (if u then 0 else 1)
-unfolding if◌then◌else◌
+tally-used : (u m : Bool) → (m ≡ true → u ≡ false) → (pick u || m then 0 else 1) + (pick m then 1 else 0) ≡ (pick u then 0 else 1)
+unfolding pick◌then◌else◌
 tally-used true true h = absurd (clash (h refl) refl)
 tally-used true false h = refl
 tally-used false true h = refl
 tally-used false false h = refl
 
 -- a block becomes retired that was not
-tally-retired : (t m : Bool) → (m ≡ true → t ≡ false) → (if t || m then 1 else 0) ≡ (if t then 1 else 0) + (if m then 1 else 0)
-unfolding if◌then◌else◌
+tally-retired : (t m : Bool) → (m ≡ true → t ≡ false) → (pick t || m then 1 else 0) ≡ (pick t then 1 else 0) + (pick m then 1 else 0)
+unfolding pick◌then◌else◌
 tally-retired true true h = absurd (clash (h refl) refl)
 tally-retired true false h = refl
 tally-retired false true h = refl
@@ -223,8 +223,8 @@ module _ {v : Volume} {c : Change} {rs : List Rewritten} (d : Carrying v c rs) w
     pub holders-after : (reserved b : ℕ) → holders reserved v b ≡ 1 → holders reserved (finished c time rs q v) b ≡ 1
     unfolding holders finished places
     holders-after reserved b h =
-        let n : count (eqb b) (new_blocks rs) ≡ (if member b (new_blocks rs) then 1 else 0) = counted-once b (new_blocks rs) (d.once b) in
-        let s : count (eqb b) (superseded_blocks rs) ≡ (if member b (superseded_blocks rs) then 1 else 0) = counted-once b (superseded_blocks rs) (omega (arith, superseded-counted b)) in
+        let n : count (eqb b) (new_blocks rs) ≡ (pick member b (new_blocks rs) then 1 else 0) = counted-once b (new_blocks rs) (d.once b) in
+        let s : count (eqb b) (superseded_blocks rs) ≡ (pick member b (superseded_blocks rs) then 1 else 0) = counted-once b (superseded_blocks rs) (omega (arith, superseded-counted b)) in
         let t = tally-used (v.used b) (member b (new_blocks rs)) (λ m. (d.free b m).1) in
         let r = tally-retired (v.retired b) (member b (superseded_blocks rs)) (λ m. mappable-kept b (superseded-mapped b m)) in
         omega (arith, h, balance-at b, n, s, t, r)

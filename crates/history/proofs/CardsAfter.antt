@@ -10,7 +10,7 @@ use lib.Dec.{eqb, leb, ltb}
 use lib.ListN.{length, length-map}
 use borrow.Author.Tests.{eqb-true, eqb-false, eq-eqb, ne_eqb, ltb-true, lt-ltb, leb-true, le-leb}
 use Rattle.rules.specs.Time.{Time}
-use Rattle.rules.specs.Lists.{if◌then◌else◌, maybe, all, find, ascending, begun}
+use Rattle.rules.specs.Lists.{pick◌then◌else◌, maybe, all, find, ascending, begun}
 use Rattle.rules.specs.Sizes.{block_bytes, nanoseconds_bound}
 use Rattle.rules.specs.Card.{Card, card_before}
 use Rattle.rules.specs.Extent.{Extent, extent_end}
@@ -43,7 +43,7 @@ card-only object k (x ∷ cs) a e =
 module _ (c : Change) (allocated : ℕ) (time : Time) where
   -- a card after the change
   unfoldable pub card_after : Card → Card
-  card_after d = if eqb d.object c.object then changed_card c.new_size allocated time d else d
+  card_after d = pick eqb d.object c.object then changed_card c.new_size allocated time d else d
 
   -- the cards are these
   pub cards-are : (cs : List Card) → finished_cards c allocated time cs ≡ map card_after cs

@@ -13,7 +13,7 @@ use lib.ListN.{length, take}
 use borrow.Author.Tests.{eq-eqb, ne_eqb}
 use Rattle.rules.specs.Write.{plan_of, write_outcome, grow_outcome}
 use Rattle.rules.specs.Time.{Time}
-use Rattle.rules.specs.Lists.{if◌then◌else◌, given, count, any, member}
+use Rattle.rules.specs.Lists.{pick◌then◌else◌, given, count, any, member}
 use Rattle.rules.specs.Sizes.{unit_blocks, most_runs, most_size, most_transfer}
 use Rattle.rules.specs.Bytes.{padded}
 use Rattle.rules.specs.Card.{Card}
@@ -232,7 +232,7 @@ write_keeps limit object offset bytes time files reserved s i b e h = go r.done
     news : List File
     news = change object (overwrite offset (take most_transfer bytes)) files
 
-    go : ((length bytes ≡ 0) × (o ≡ accept 0 s [])) ⊎ Written limit offset bytes time s r.card o → Inv (if eqb (length bytes) 0 then files else news) reserved (result s [] o).store
+    go : ((length bytes ≡ 0) × (o ≡ accept 0 s [])) ⊎ Written limit offset bytes time s r.card o → Inv (pick eqb (length bytes) 0 then files else news) reserved (result s [] o).store
     go (inl z) = rw (if-true (eqb (length bytes) 0) files news (eq-eqb (length bytes) 0 z.0), z.1) (unfold result in h)
     go (inr w) = rw (if-false (eqb (length bytes) 0) files news (ne_eqb (length bytes) 0 w.some)) (write_done files reserved s b h object r.card r.known limit offset bytes time o (write_bytes s b limit object offset bytes time i.2) w)
 

@@ -9,7 +9,7 @@ use native.Mathlib.Decide.{dec_lt}
 use native.Mathlib.Omega.{arith}
 use lib.Dec.{eqb, ltb}
 use borrow.Author.Tests.{eqb-true, eqb-false, ne_eqb, ltb-true, lt-ltb, not-true}
-use Rattle.rules.specs.Lists.{if◌then◌else◌, all}
+use Rattle.rules.specs.Lists.{pick◌then◌else◌, all}
 use Rattle.rules.specs.Sizes.{unit_blocks}
 use Rattle.rules.specs.Extent.{Extent, extent_end, covers, block_of, mapping}
 use Rattle.rules.specs.Rewrite.{Rewritten}
@@ -89,7 +89,7 @@ from-mapping e block object n l c =
 
 -- what a unit cut out leaves of an extent
 abbrev pub cut_one : ℕ → ℕ → Extent → List Extent
-cut_one object unit e = if eqb e.object object then part_before e (unit * unit_blocks) ++ part_from e (suc unit * unit_blocks) else e ∷ []
+cut_one object unit e = pick eqb e.object object then part_before e (unit * unit_blocks) ++ part_from e (suc unit * unit_blocks) else e ∷ []
 
 -- a book is cut extent by extent
 pub cut-each : (object unit : ℕ) (es : List Extent) → cut_unit object unit es ≡ flat_map (cut_one object unit) es

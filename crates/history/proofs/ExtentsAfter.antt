@@ -9,7 +9,7 @@ use Prim.Native.Nat.{ℕ, ◌+◌, ◌^◌, ◌≤◌, ◌<◌}
 use native.Mathlib.Omega.{arith}
 use lib.Dec.{eqb, leb}
 use borrow.Author.Tests.{eqb-true, eqb-false, leb-true, le-leb}
-use Rattle.rules.specs.Lists.{if◌then◌else◌, all, filter, count, begun}
+use Rattle.rules.specs.Lists.{pick◌then◌else◌, all, filter, count, begun}
 use Rattle.rules.specs.Sizes.{block_bytes}
 use Rattle.rules.specs.Card.{Card}
 use Rattle.rules.specs.Extent.{Extent, extent_end, joined, mapping}
@@ -56,9 +56,9 @@ places-after object rs es f =
 
 -- every block of every file, after the call
 pub mapping-after : (object : ℕ) (rs : List Rewritten) (es : List Extent) → Units rs → Apart es → (o b : ℕ)
-    → mapping (finished_extents object rs es) o b ≡ (if eqb o object then new_mapping rs b (mapping es o b) else mapping es o b)
+    → mapping (finished_extents object rs es) o b ≡ (pick eqb o object then new_mapping rs b (mapping es o b) else mapping es o b)
 mapping-after object rs es u a o b =
-    parts ∙ test-cases (or_else (mapping runs o b) (mapping cut o b) ≡ (if eqb o object then new_mapping rs b (mapping es o b) else mapping es o b)) (eqb o object)
+    parts ∙ test-cases (or_else (mapping runs o b) (mapping cut o b) ≡ (pick eqb o object then new_mapping rs b (mapping es o b) else mapping es o b)) (eqb o object)
     (λ t. let q : o ≡ object = eqb-true o object t in
     test-cases (or_else (mapping runs o b) (mapping cut o b) ≡ new_mapping rs b (mapping es o b)) (outside rs b) (kept q) (new q)
     ∙ sym (if-true (eqb o object) (new_mapping rs b (mapping es o b)) (mapping es o b) t))

@@ -11,7 +11,7 @@ use lib.Dec.{eqb, ltb}
 use lib.ListN.{length, get_or, set, replicate, length-set, length-replicate, get_or-replicate}
 use lib.Seq.{get_or-set_same, get_or-set_other}
 use borrow.Author.Tests.{eqb-true, eq-eqb, ltb-true, lt-ltb}
-use Rattle.rules.specs.Lists.{if◌then◌else◌, maybe, given, any, filter, find, insert, ascending}
+use Rattle.rules.specs.Lists.{pick◌then◌else◌, maybe, given, any, filter, find, insert, ascending}
 use Rattle.rules.specs.Sizes.{group_units}
 use Rattle.rules.specs.Group.{Group, group_before, empty_group, checksum_slot, set_checksum_slot}
 use Rattle.rules.specs.Store.{Volume}
@@ -144,7 +144,7 @@ module _ (object number : ℕ) (gs : List Group) where
 
 -- a group with its slot set, where it is the unit's
 unfoldable slot_set : ℕ → ℕ → ℕ → Group → Group
-slot_set object unit crc g = if is_group object (unit / group_units) g then set_checksum_slot g (unit % group_units) (some crc) else g
+slot_set object unit crc g = pick is_group object (unit / group_units) g then set_checksum_slot g (unit % group_units) (some crc) else g
 
 -- nothing is not something
 given-none : {x : Option Group} → x ≡ none → given x ≡ false

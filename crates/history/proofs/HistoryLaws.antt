@@ -6,7 +6,7 @@ use mathlib.Core.Bool.{Bool, true, false}
 use Prim.Native.Nat.{ℕ, ◌+◌}
 use lib.Dec.{ltb}
 use Rattle.rules.specs.Time.{Time}
-use Rattle.rules.specs.Lists.{if◌then◌else◌, any, filter, count, member}
+use Rattle.rules.specs.Lists.{pick◌then◌else◌, any, filter, count, member}
 use Rattle.rules.specs.Store.{Store, StoreBytes}
 use Rattle.rules.specs.Refusal.{Outcome, number_of, first_case, result}
 use Rattle.rules.specs.Fresh.{fresh_volume, fresh_outcome}
@@ -37,7 +37,7 @@ pub record Told : Type 0 where
 abbrev pub told : Act → Store → Told → Told
 told a s st = record {
   files = step (record { act = a; refused = act_refused a s; done = parts_done a s }) st.files;
-  reserved = if act_refused a s then st.reserved else act_reserved a st.reserved;
+  reserved = pick act_refused a s then st.reserved else act_reserved a st.reserved;
 }
 
 -- the store after an act
@@ -67,11 +67,11 @@ module _ (Inv : List File → ℕ → Store → Type 0)
     → Inv (act_step a (parts_done a s) files) (act_reserved a reserved) (act a s).store) where
   -- what every act that is not refused keeps every act keeps, for a refused one leaves the store and tells nothing
   one : (a : Act) (st : Told) (s : Store) → ActInRange a → StoreBytes s → Inv st.files st.reserved s → Inv (told a s st).files (told a s st).reserved (left a s)
-  unfolding step if◌then◌else◌
+  unfolding step pick◌then◌else◌
   one a st s i b h = go (act-cases a s) (λ e. step-inv a st.files st.reserved s i b e h)
     where
       go : {f : Bool} → ActIs s (act_out a) (act a s) f → (f ≡ false → Inv (act_step a (parts_done a s) st.files) (act_reserved a st.reserved) (act a s).store)
-          → Inv (if f then st.files else act_step a (parts_done a s) st.files) (if f then st.reserved else act_reserved a st.reserved) (act a s).store
+          → Inv (pick f then st.files else act_step a (parts_done a s) st.files) (pick f then st.reserved else act_reserved a st.reserved) (act a s).store
       go (is-refused u) k = rw u.store h
       go is-done k = k refl
 
@@ -121,12 +121,12 @@ module _ (s : Store) (p : Passes s) where
 -- ---- after fresh
 
 -- reserved and used, or free
-either : (b : Bool) → (if b then 1 else 0) + (if b then 0 else 1) + 0 + 0 ≡ 1
-unfolding if◌then◌else◌
+either : (b : Bool) → (pick b then 1 else 0) + (pick b then 0 else 1) + 0 + 0 ≡ 1
+unfolding pick◌then◌else◌
 either true = refl
 either false = refl
 
 -- each block of a fresh volume is in one place
 pub fresh-holders : (uuid : List ℕ) (reserved : ℕ) (s : Store) (b : ℕ) → holders reserved (fresh_volume uuid reserved s) b ≡ 1
-unfolding fresh_volume holders places flat_map count filter if◌then◌else◌
+unfolding fresh_volume holders places flat_map count filter pick◌then◌else◌
 fresh-holders uuid reserved s b = either (ltb b reserved)

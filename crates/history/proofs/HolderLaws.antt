@@ -13,7 +13,7 @@ use native.Mathlib.Omega.{arith}
 use lib.Dec.{eqb, ltb, leb}
 use lib.ListN.{length}
 use borrow.Author.Tests.{eq-eqb, ne_eqb, lt-ltb, le-ltb, leb-true}
-use Rattle.rules.specs.Lists.{if◌then◌else◌, range, all, any, filter, count, insert, begun}
+use Rattle.rules.specs.Lists.{pick◌then◌else◌, range, all, any, filter, count, insert, begun}
 use Rattle.rules.specs.Sizes.{block_bytes}
 use Rattle.rules.specs.Card.{Card, card_before}
 use Rattle.rules.specs.Extent.{Extent, extent_end}
@@ -85,8 +85,8 @@ retired-used v l b h = go (dec_lt b v.blocks)
 
 -- a retired block becomes free, and every other stays what it is
 free-or-retired : (used retired : Bool) → (retired ≡ true → used ≡ true)
-    → (if used && not retired then 0 else 1) + (if false then 1 else 0) ≡ (if used then 0 else 1) + (if retired then 1 else 0)
-unfolding if◌then◌else◌
+    → (pick used && not retired then 0 else 1) + (pick false then 1 else 0) ≡ (pick used then 0 else 1) + (pick retired then 1 else 0)
+unfolding pick◌then◌else◌
 free-or-retired true true h = refl
 free-or-retired true false h = refl
 free-or-retired false true h = absurd (clash (sym (h refl)) refl)

@@ -10,7 +10,7 @@ use native.Mathlib.Omega.{arith}
 use lib.Dec.{ltb, leb}
 use lib.ListN.{length, drop_of_length-le}
 use borrow.Author.Tests.{ltb-true, ltb-false, lt-ltb, leb-true, leb-false}
-use Rattle.rules.specs.Lists.{if◌then◌else◌, given, all, any, member}
+use Rattle.rules.specs.Lists.{pick◌then◌else◌, given, all, any, member}
 use Rattle.rules.specs.Sizes.{unit_bytes}
 use Rattle.rules.specs.Bytes.{part, all_zero}
 use Rattle.rules.specs.Card.{Card}
@@ -45,8 +45,8 @@ given-none none e = refl
 given-none (some x) e = absurd (clash e refl)
 
 -- bytes that reading a unit without a slot finds are zeros, for it is a hole or damaged
-bare-zero : {xs : List ℕ} (b : Bool) → UnitIs xs (if b then damaged no_checksum else hole) → all_zero xs ≡ true
-unfolding if◌then◌else◌
+bare-zero : {xs : List ℕ} (b : Bool) → UnitIs xs (pick b then damaged no_checksum else hole) → all_zero xs ≡ true
+unfolding pick◌then◌else◌
 bare-zero true u = elim u [ ]
 bare-zero {xs} false (is-hole e) = ap all_zero e ∙ all_zero-replicate (length xs)
 
@@ -55,7 +55,7 @@ module _ (v : Volume) (object : ℕ) (xs : List ℕ) (h : FileIs v object xs) (u
   unit-zero : checksum_of v object u ≡ none → u * unit_bytes < length xs → all_zero (part (u * unit_bytes) unit_bytes xs) ≡ true
   unfolding inspect_unit
   unit-zero e l =
-      let d : Inspected = if backed_under v object u then damaged no_checksum else hole in
+      let d : Inspected = pick backed_under v object u then damaged no_checksum else hole in
       bare-zero (backed_under v object u) (subst (UnitIs (part (u * unit_bytes) unit_bytes xs)) (maybe-none d (inspect_slot v object (length xs) u) (checksum_of v object u) e) (h u l))
 
   past-zero : length xs ≤ u * unit_bytes → all_zero (part (u * unit_bytes) unit_bytes xs) ≡ true

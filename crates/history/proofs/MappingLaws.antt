@@ -9,7 +9,7 @@ use native.Mathlib.Decide.{dec_lt}
 use native.Mathlib.Omega.{arith}
 use lib.Dec.{eqb, leb, ltb}
 use borrow.Author.Tests.{eqb-true, eq-eqb, leb-true, le-leb, ltb-true, lt-ltb}
-use Rattle.rules.specs.Lists.{if◌then◌else◌, maybe, filter, find}
+use Rattle.rules.specs.Lists.{pick◌then◌else◌, maybe, filter, find}
 use Rattle.rules.specs.Extent.{Extent, extent_before, extent_end, joins, joined, covers, block_of, mapping}
 use Rattle.rules.specs.Finish.{meet, attach, take_in, take_in_all}
 use Rattle.rules.proofs.ListLaws.{test-cases, clash, if-true, if-false, and_left, and_right, and_intro, find-yes, find-no, Each, each_none, each_more, each_weaken}
@@ -155,7 +155,7 @@ module _ (object block : ℕ) where
   unfolding meet
   mapping-meet e [] = refl
   mapping-meet e (f ∷ fs) =
-      test-cases (mapping (if joins e f then joined e f ∷ fs else e ∷ f ∷ fs) object block ≡ mapping (e ∷ f ∷ fs) object block) (joins e f)
+      test-cases (mapping (pick joins e f then joined e f ∷ fs else e ∷ f ∷ fs) object block ≡ mapping (e ∷ f ∷ fs) object block) (joins e f)
       (λ j. rw (if-true (joins e f) (joined e f ∷ fs) (e ∷ f ∷ fs) j) (mapping-joined e f fs (joins_true e f j)))
       (λ j. rw (if-false (joins e f) (joined e f ∷ fs) (e ∷ f ∷ fs) j) refl)
 

@@ -10,7 +10,7 @@ use native.Mathlib.Omega.{arith}
 use lib.Dec.{eqb, ltb}
 use lib.ListN.{length, get_or, get_elem?}
 use borrow.Author.Tests.{eqb-true, eq-eqb, ne_eqb, ltb-true, ltb-false}
-use Rattle.rules.specs.Lists.{if◌then◌else◌, maybe, any, filter, count, find, member, ascending, neighbours}
+use Rattle.rules.specs.Lists.{pick◌then◌else◌, maybe, any, filter, count, find, member, ascending, neighbours}
 use Rattle.rules.proofs.ListLaws.{test-cases, and_left, and_intro, or_cases, or_left, or_right, count-append, count_yes, count_no, find-yes, find-no, ascending-first, ascending-tail, Each, each_none, each_more, each-any, each_weaken}
 use Rattle.rules.proofs.CountLaws.{count-nil, count-cons, same_test, count-each, count_none, count-filter, member-count, Once, ascending-below}
 use Rattle.rules.proofs.PassLaws.{all-each}
@@ -95,7 +95,7 @@ count-all xs = count-every (λ x. true) xs (all-each (λ x. true) (each-any (λ 
 
 -- those that pass a test or another, which never pass together
 pub count-either : {A : Type 0} (f g : A → Bool) → ((x : A) → f x ≡ true → g x ≡ false) → (xs : List A) → count (λ x. f x || g x) xs ≡ count f xs + count g xs
-unfolding if◌then◌else◌
+unfolding pick◌then◌else◌
 count-either f g d [] = omega (arith, count-nil f, count-nil g, count-nil (λ x. f x || g x))
 count-either f g d (x ∷ xs) =
     let h : count (λ y. f y || g y) xs ≡ count f xs + count g xs = count-either f g d xs in
@@ -130,10 +130,10 @@ count_turn b xs =
     count-each (λ x. eqb x b) (eqb b) (each-any (λ x. same_test (eqb x b) (eqb b x) (λ e. eq-eqb b x (sym (eqb-true x b e))) (λ e. eq-eqb x b (sym (eqb-true b x e)))) xs)
 
 -- one that stands at most once is counted by whether it does
-pub counted-once : (b : ℕ) (xs : List ℕ) → count (eqb b) xs ≤ 1 → count (eqb b) xs ≡ (if member b xs then 1 else 0)
-unfolding if◌then◌else◌
+pub counted-once : (b : ℕ) (xs : List ℕ) → count (eqb b) xs ≤ 1 → count (eqb b) xs ≡ (pick member b xs then 1 else 0)
+unfolding pick◌then◌else◌
 counted-once b xs l =
-    test-cases (count (eqb b) xs ≡ (if member b xs then 1 else 0)) (member b xs)
+    test-cases (count (eqb b) xs ≡ (pick member b xs then 1 else 0)) (member b xs)
     (λ t. let p : 0 < count (eqb b) xs = ltb-true 0 (count (eqb b) xs) (sym (member-count b xs) ∙ t) in rw t (omega arith))
     (λ t. let p : count (eqb b) xs ≤ 0 = ltb-false 0 (count (eqb b) xs) (sym (member-count b xs) ∙ t) in rw t (omega arith))
 

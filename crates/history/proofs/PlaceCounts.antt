@@ -8,7 +8,7 @@ use Prim.Native.Nat.{ℕ, ◌+◌, ◌-◌, ◌*◌, ◌/◌}
 use native.Mathlib.Omega.{arith}
 use lib.Dec.{eqb}
 use borrow.Author.Tests.{eqb-true, eq-eqb}
-use Rattle.rules.specs.Lists.{if◌then◌else◌, range, filter, count, member}
+use Rattle.rules.specs.Lists.{pick◌then◌else◌, range, filter, count, member}
 use Rattle.rules.specs.Sizes.{unit_blocks}
 use Rattle.rules.specs.Extent.{Extent, covers, block_of, mapping}
 use Rattle.rules.specs.Demand.{Place, places_of}
@@ -52,7 +52,7 @@ module _ {A : Type 0} where
 -- how often a test passes at what may stand there
 unfoldable hits : (ℕ → Bool) → Option ℕ → ℕ
 hits g none = 0
-hits g (some p) = if g p then 1 else 0
+hits g (some p) = pick g p then 1 else 0
 
 -- those that are there, counted
 count-there : (g : ℕ → Bool) (f : ℕ → Option ℕ) (ls : List ℕ) → count g (there (map f ls)) ≡ total (λ l. hits g (f l)) ls
@@ -62,7 +62,7 @@ count-there g f (l ∷ ls) = go (f l) (count-there g f ls)
   where
     go : (o : Option ℕ) → count g (there (map f ls)) ≡ total (λ l. hits g (f l)) ls → count g (there (o ∷ map f ls)) ≡ hits g o + total (λ l. hits g (f l)) ls
     go none e = unfold there hits in omega (arith, e)
-    go (some p) e = unfold there hits in (count-cons g p (there (map f ls)) ∙ ap (λ (n : ℕ). (if g p then 1 else 0) + n) e)
+    go (some p) e = unfold there hits in (count-cons g p (there (map f ls)) ∙ ap (λ (n : ℕ). (pick g p then 1 else 0) + n) e)
 
 module _ (g : ℕ → Bool) (object block : ℕ) where
   -- the place is this block of this file, and what stands there passes
@@ -75,7 +75,7 @@ module _ (g : ℕ → Bool) (object block : ℕ) where
   count-covered e c =
       let i : ℕ = block - e.logical in
       count_map at_block _ (range 0 e.count)
-      ∙ test-cases (count (λ j. at_block (record { object = e.object; logical = e.logical + j; block = e.physical + j })) (range 0 e.count) ≡ (if g (e.physical + i) then 1 else 0)) (g (e.physical + i))
+      ∙ test-cases (count (λ j. at_block (record { object = e.object; logical = e.logical + j; block = e.physical + j })) (range 0 e.count) ≡ (pick g (e.physical + i) then 1 else 0)) (g (e.physical + i))
       (λ t. count-each _ (eqb i) (each_weaken (λ j l. same_test _ (eqb i j)
       (λ h. eq-eqb i j (let y : e.logical + j ≡ block = eqb-true (e.logical + j) block (and_right (eqb e.object object && g (e.physical + j)) (eqb (e.logical + j) block) h) in omega (arith, c.low)))
       (λ h. let y : i ≡ j = eqb-true i j h in

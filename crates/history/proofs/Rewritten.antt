@@ -9,7 +9,7 @@ use native.Mathlib.Omega.{arith}
 use lib.Dec.{eqb, ltb}
 use lib.ListN.{length, get_elem?}
 use borrow.Author.Tests.{not-true, ltb-true, lt-ltb}
-use Rattle.rules.specs.Lists.{if◌then◌else◌, all, ascending, neighbours}
+use Rattle.rules.specs.Lists.{pick◌then◌else◌, all, ascending, neighbours}
 use Rattle.rules.specs.Sizes.{unit_blocks}
 use Rattle.rules.specs.Extent.{Extent, extent_before}
 use Rattle.rules.specs.Store.{Volume}
@@ -33,7 +33,7 @@ each-rest (each_more p h) = h
 unfoldable pub new_mapping : List Rewritten → ℕ → Option ℕ → Option ℕ
 new_mapping [] block old = old
 new_mapping (r ∷ rs) block old =
-    if eqb (block / unit_blocks) r.unit then get_elem? r.blocks (block % unit_blocks) else new_mapping rs block old
+    pick eqb (block / unit_blocks) r.unit then get_elem? r.blocks (block % unit_blocks) else new_mapping rs block old
 
 -- the block of the file lies in no rewritten unit
 unfoldable pub outside : List Rewritten → ℕ → Bool

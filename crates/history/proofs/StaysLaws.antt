@@ -14,7 +14,7 @@ use lib.Dec.{eqb}
 use lib.ListN.{length, get_or, get_elem?, length-map, get_or-eq_default}
 use borrow.Author.Tests.{eq-eqb, ne_eqb}
 use Rattle.rules.specs.Time.{Time}
-use Rattle.rules.specs.Lists.{if◌then◌else◌, maybe, range, count}
+use Rattle.rules.specs.Lists.{pick◌then◌else◌, maybe, range, count}
 use Rattle.rules.specs.Sizes.{unit_blocks, most_size, most_runs, archive_runs}
 use Rattle.rules.specs.Card.{Card}
 use Rattle.rules.specs.Extent.{mapping}
@@ -53,14 +53,14 @@ use Rattle.history.proofs.MoreLists.{each-mem}
 -- ---- what stayed of a list of places
 
 -- a block that was in its place stayed
-stayed-same : (p : ℕ) (o : Option ℕ) → o ≡ some p → (if maybe false (eqb p) o then some p else none) ≡ some p
+stayed-same : (p : ℕ) (o : Option ℕ) → o ≡ some p → (pick maybe false (eqb p) o then some p else none) ≡ some p
 unfolding maybe
 stayed-same p none e = absurd (none-ne-some p e)
 stayed-same p (some q) e = if-true (eqb p q) (some p) none (eq-eqb p q (sym (some-injective q p e)))
 
 -- another did not
-stayed-other : (p : ℕ) (o : Option ℕ) → (o ≡ some p → ⊥) → (if maybe false (eqb p) o then some p else none) ≡ none
-unfolding maybe if◌then◌else◌
+stayed-other : (p : ℕ) (o : Option ℕ) → (o ≡ some p → ⊥) → (pick maybe false (eqb p) o then some p else none) ≡ none
+unfolding maybe pick◌then◌else◌
 stayed-other p none n = refl
 stayed-other p (some q) n = if-false (eqb p q) (some p) none (ne_eqb p q (λ e. n (ap some (sym e))))
 

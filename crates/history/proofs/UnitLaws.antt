@@ -9,7 +9,7 @@ use native.Mathlib.Omega.{arith}
 use lib.Dec.{eqb, leb}
 use lib.ListN.{length, take, drop, get_or, length-drop}
 use borrow.Author.Tests.{eq-eqb, leb-true, not-false}
-use Rattle.rules.specs.Lists.{if◌then◌else◌, maybe, given, range, all, find, begun}
+use Rattle.rules.specs.Lists.{pick◌then◌else◌, maybe, given, range, all, find, begun}
 use Rattle.rules.specs.Sizes.{block_bytes, unit_blocks}
 use Rattle.rules.specs.Bytes.{part, padded, all_zero}
 use Rattle.rules.specs.Extent.{Extent, covers, block_of, mapping}
@@ -109,22 +109,22 @@ hole-means v object size unit = go (checksum_of v object unit) refl
         (λ r e. let z : ◌≡◌ {A = ℕ} 0 1 = cc in omega arith)))
 
     go : (o : Option ℕ) → checksum_of v object unit ≡ o
-        → maybe (if backed_under v object unit then damaged no_checksum else hole) (inspect_slot v object size unit) (checksum_of v object unit) ≡ hole
+        → maybe (pick backed_under v object unit then damaged no_checksum else hole) (inspect_slot v object size unit) (checksum_of v object unit) ≡ hole
         → (checksum_of v object unit ≡ none) × (backed_under v object unit ≡ false)
     go none e h = (
       e,
       test-cases (backed_under v object unit ≡ false) (backed_under v object unit)
           (λ t. let q = sym (if-true (backed_under v object unit) (damaged no_checksum) hole t) in
-          let r = maybe-none (if backed_under v object unit then damaged no_checksum else hole) (inspect_slot v object size unit) (checksum_of v object unit) e in
+          let r = maybe-none (pick backed_under v object unit then damaged no_checksum else hole) (inspect_slot v object size unit) (checksum_of v object unit) e in
           let z : ◌≡◌ {A = ℕ} 0 1 = cc (q ∙ sym r ∙ h) in absurd (omega arith)) (λ t. t),
     )
-    go (some crc) e h = absurd (no_slot crc (sym (maybe-some (if backed_under v object unit then damaged no_checksum else hole) (inspect_slot v object size unit) (checksum_of v object unit) crc e) ∙ h))
+    go (some crc) e h = absurd (no_slot crc (sym (maybe-some (pick backed_under v object unit then damaged no_checksum else hole) (inspect_slot v object size unit) (checksum_of v object unit) crc e) ∙ h))
 
 -- and one without a slot that nothing backs is a hole
 pub makes-hole : (v : Volume) (object size unit : ℕ) → checksum_of v object unit ≡ none → backed_under v object unit ≡ false → inspect_unit v object size unit ≡ hole
 unfolding inspect_unit
 makes-hole v object size unit e b =
-    maybe-none (if backed_under v object unit then damaged no_checksum else hole) (inspect_slot v object size unit) (checksum_of v object unit) e
+    maybe-none (pick backed_under v object unit then damaged no_checksum else hole) (inspect_slot v object size unit) (checksum_of v object unit) e
     ∙ if-false (backed_under v object unit) (damaged no_checksum) hole b
 
 -- ---- checked units
@@ -149,14 +149,14 @@ checked-means v object size unit ys = go (checksum_of v object unit) refl
         (λ s. if-cases (λ (i : Inspected). i ≡ checked ys → R) (not (checksum_right v object size unit crc)) _ _ (λ r e. let z : ◌≡◌ {A = ℕ} 0 1 = cc in absurd (omega arith))
         (λ r e. record { backed = not-false (fully_backed v object size unit) t; bytes = cc })))
 
-    bare : (if backed_under v object unit then damaged no_checksum else hole) ≡ checked ys → R
+    bare : (pick backed_under v object unit then damaged no_checksum else hole) ≡ checked ys → R
     bare = if-cases (λ (i : Inspected). i ≡ checked ys → R) (backed_under v object unit) (damaged no_checksum) hole
         (λ t e. let z : ◌≡◌ {A = ℕ} 0 1 = cc in absurd (omega arith)) (λ t e. let z : ◌≡◌ {A = ℕ} 0 1 = cc in absurd (omega arith))
 
     go : (o : Option ℕ) → checksum_of v object unit ≡ o
-        → maybe (if backed_under v object unit then damaged no_checksum else hole) (inspect_slot v object size unit) (checksum_of v object unit) ≡ checked ys → R
-    go none e h = bare (sym (maybe-none (if backed_under v object unit then damaged no_checksum else hole) (inspect_slot v object size unit) (checksum_of v object unit) e) ∙ h)
-    go (some crc) e h = slot crc (sym (maybe-some (if backed_under v object unit then damaged no_checksum else hole) (inspect_slot v object size unit) (checksum_of v object unit) crc e) ∙ h)
+        → maybe (pick backed_under v object unit then damaged no_checksum else hole) (inspect_slot v object size unit) (checksum_of v object unit) ≡ checked ys → R
+    go none e h = bare (sym (maybe-none (pick backed_under v object unit then damaged no_checksum else hole) (inspect_slot v object size unit) (checksum_of v object unit) e) ∙ h)
+    go (some crc) e h = slot crc (sym (maybe-some (pick backed_under v object unit then damaged no_checksum else hole) (inspect_slot v object size unit) (checksum_of v object unit) crc e) ∙ h)
 
 -- the blocks of a unit, one of them
 pub get_or-mapped : (v : Volume) (object unit n i : ℕ) → i < n → get_or (unit_mapping v object unit n) i none ≡ mapping v.books.extents object (unit * unit_blocks + i)
@@ -188,7 +188,7 @@ checked-block v object size unit ys c w i p l m =
 -- a slot whose tests pass
 slot-checked : (v : Volume) (object size unit crc : ℕ) → fully_backed v object size unit ≡ true → zero_past_end v object size unit ≡ true → checksum_right v object size unit crc ≡ true
     → inspect_slot v object size unit crc ≡ checked (valid_bytes v object size unit)
-unfolding inspect_slot if◌then◌else◌
+unfolding inspect_slot pick◌then◌else◌
 slot-checked v object size unit crc a z r = rw (a, z, r) refl
 
 module _ (w : Volume) (object size unit : ℕ) (bs ys : List ℕ) (l : length ys ≡ valid_length size unit) (n : length bs ≡ begun (length ys) block_bytes)
@@ -216,7 +216,7 @@ module _ (w : Volume) (object size unit : ℕ) (bs ys : List ℕ) (l : length ys
       (ap (λ (xs : List ℕ). all_zero (drop (valid_length size unit) xs)) made_bytes ∙ ap all_zero (drop-padded (length bs * block_bytes) ys (valid_length size unit) l) ∙ all_zero-replicate (length bs * block_bytes - valid_length size unit)) in
       let t : valid_bytes w object size unit ≡ ys = unfold valid_bytes in (ap (take (valid_length size unit)) made_bytes ∙ take-padded (length bs * block_bytes) ys (valid_length size unit) l) in
       let r : checksum_right w object size unit crc ≡ true = (ap (λ (x : List ℕ). eqb crc (unit_checksum w.uuid object unit x)) t ∙ eq-eqb crc crc refl) in
-      maybe-some (if backed_under w object unit then damaged no_checksum else hole) (inspect_slot w object size unit) (checksum_of w object unit) crc s
+      maybe-some (pick backed_under w object unit then damaged no_checksum else hole) (inspect_slot w object size unit) (checksum_of w object unit) crc s
       ∙ slot-checked w object size unit crc a z r ∙ ap checked t
 
 -- ---- units that stay
@@ -226,7 +226,7 @@ inspect-from : (w v : Volume) (object a b unit : ℕ) → checksum_of w object u
     → ((crc : ℕ) → inspect_slot w object a unit crc ≡ inspect_slot v object b unit crc) → inspect_unit w object a unit ≡ inspect_unit v object b unit
 unfolding inspect_unit
 inspect-from w v object a b unit s u h =
-    rw (s, u) (ap (λ (f : ℕ → Inspected). maybe (if backed_under v object unit then damaged no_checksum else hole) f (checksum_of v object unit)) (fun_ext h))
+    rw (s, u) (ap (λ (f : ℕ → Inspected). maybe (pick backed_under v object unit then damaged no_checksum else hole) f (checksum_of v object unit)) (fun_ext h))
 
 -- only the valid length counts
 pub inspect-valid : (v : Volume) (object a b unit : ℕ) → valid_length a unit ≡ valid_length b unit → inspect_unit v object a unit ≡ inspect_unit v object b unit

@@ -7,7 +7,7 @@ use Prim.Native.Nat.{ℕ, ◌+◌, ◌-◌, ◌*◌, ◌≤◌}
 use native.Mathlib.Omega.{arith}
 use lib.ListN.{length, take, drop, replicate, length-append, length-take, length-drop, length-replicate, take-append-drop}
 use lib.Seq.{length-take-le, take_at, take-take, drop-append-le}
-use Rattle.rules.specs.Lists.{if◌then◌else◌}
+use Rattle.rules.specs.Lists.{pick◌then◌else◌}
 use Rattle.rules.specs.Sizes.{block_bytes, unit_blocks, unit_bytes}
 use Rattle.rules.specs.Bytes.{part, patch, padded}
 use Rattle.rules.proofs.ListLaws.{if-true}
@@ -56,7 +56,7 @@ assembled-unit image xs s x y t w m n a p q l h f inside e g r =
 -- ---- the part that is handed back
 
 -- the caller's, where the unit is covered
-pub covered-part : (c : Bool) (x y : List ℕ) (from n : ℕ) → c ≡ true → take (from + n - from) (drop from x) ≡ (if c then part from n x else take n y)
+pub covered-part : (c : Bool) (x y : List ℕ) (from n : ℕ) → c ≡ true → take (from + n - from) (drop from x) ≡ (pick c then part from n x else take n y)
 unfolding part
 covered-part c x y from n e =
     let w : from + n - from ≡ n = omega arith in

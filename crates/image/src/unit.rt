@@ -1,6 +1,6 @@
 // The bytes that a rewritten unit gets: the caller's own where the write covers the unit, and otherwise the assembled unit.
 ghost use Rattle.std.specs.Prelude.{◌≡◌, true, false, ◌+◌, ◌≤◌, length, take};
-ghost use Rattle.rules.specs.Lists.{if◌then◌else◌};
+ghost use Rattle.rules.specs.Lists.{pick◌then◌else◌};
 ghost use Rattle.rules.specs.Sizes.{unit_blocks, unit_bytes};
 ghost use Rattle.rules.specs.Bytes.{part, patch, padded};
 ghost use Rattle.mapping.specs.Entries.{entries, Inside};
@@ -41,7 +41,7 @@ pub fn unit_bytes<'a>(
 ) -> &'a [u8]
     requires n_in_bounds { covered ≡ true → from + n ≤ length bytes.now }
     requires n_in_bounds_2 { covered ≡ false → n ≤ length assembled.now }
-    ensures { result.now ≡ (if covered then part from n bytes.now else take n assembled.now) }
+    ensures { result.now ≡ (pick covered then part from n bytes.now else take n assembled.now) }
 {
     if covered {
         let end = from + n;

@@ -11,7 +11,7 @@ use native.Mathlib.Omega.{arith}
 use lib.ListN.{length, take, drop, get_or, replicate, length-map, length-take, length-drop, drop_of_length-le, get_or-map, get_or-eq_default}
 use lib.Seq.{drop-cons, drop-drop, get_or-take, get_or-drop}
 use borrow.Author.Tests.{eq-eqb, ne_eqb}
-use Rattle.rules.specs.Lists.{if◌then◌else◌, maybe, given, all, any, begun}
+use Rattle.rules.specs.Lists.{pick◌then◌else◌, maybe, given, all, any, begun}
 use Rattle.rules.specs.Sizes.{block_bytes, unit_blocks, unit_bytes}
 use Rattle.rules.specs.Bytes.{all_zero}
 use Rattle.rules.specs.Checksum.{unit_checksum}
@@ -55,24 +55,24 @@ module _ (image uuid : List ℕ) (object size unit : ℕ) (blocks : List ℕ) (c
 
   -- refusal 10
   pub slot-unbacked : (b : Bool) → b ≡ all given (take n (entries blocks)) → not b ≡ true → Answer (Damaged 10)
-  unfolding answer_of slot_mapped valid_blocks if◌then◌else◌ number_of
+  unfolding answer_of slot_mapped valid_blocks pick◌then◌else◌ number_of
   slot-unbacked b p q e m = rw (← e, ← m, ← p, q) refl
 
   -- refusal 11
   pub slot-nonzero : (b z : Bool) → b ≡ all given (take n (entries blocks)) → not b ≡ false → z ≡ all_zero (drop valid (backed_bytes image blocks n)) → not z ≡ true → Answer (Damaged 11)
-  unfolding answer_of slot_mapped valid_blocks backed_bytes if◌then◌else◌ number_of
+  unfolding answer_of slot_mapped valid_blocks backed_bytes pick◌then◌else◌ number_of
   slot-nonzero b z p q r s e m = rw (← e, ← m, ← p, q, ← r, s) refl
 
   -- refusal 12
   pub slot-differs : (b z : Bool) (x : ℕ) → b ≡ all given (take n (entries blocks)) → not b ≡ false → z ≡ all_zero (drop valid (backed_bytes image blocks n)) → not z ≡ false
       → x ≡ unit_checksum uuid object unit (take valid (backed_bytes image blocks n)) → (x ≡ crc → ⊥) → Answer (Damaged 12)
-  unfolding answer_of slot_mapped valid_of valid_blocks backed_bytes if◌then◌else◌ number_of
+  unfolding answer_of slot_mapped valid_of valid_blocks backed_bytes pick◌then◌else◌ number_of
   slot-differs b z x p q r s u d e m = rw (← e, ← m, ← p, q, ← r, s, ← u, ne_eqb crc x (λ k. d (sym k))) refl
 
   -- none of them
   pub slot-right : (b z : Bool) (x : ℕ) → b ≡ all given (take n (entries blocks)) → not b ≡ false → z ≡ all_zero (drop valid (backed_bytes image blocks n)) → not z ≡ false
       → x ≡ unit_checksum uuid object unit (take valid (backed_bytes image blocks n)) → x ≡ crc → Answer Checked
-  unfolding answer_of slot_mapped valid_of valid_blocks backed_bytes if◌then◌else◌ number_of
+  unfolding answer_of slot_mapped valid_of valid_blocks backed_bytes pick◌then◌else◌ number_of
   slot-right b z x p q r s u d e m = rw (← e, ← m, ← p, q, ← r, s, ← u, eq-eqb crc x (sym d)) refl
 
 -- ---- a unit, by its slot
@@ -80,12 +80,12 @@ module _ (image uuid : List ℕ) (object size unit : ℕ) (blocks : List ℕ) (c
 module _ (image uuid : List ℕ) (object size unit : ℕ) (blocks : List ℕ) (slot : ℕ) where
   -- refusal 9
   pub unit-unslotted : (b : Bool) → slot ≡ 0 → b ≡ any given (entries blocks) → b ≡ true → Damaged 9 ≡ answer_of (inspect_mapped image uuid object size unit (entries blocks) (entry_of slot))
-  unfolding answer_of inspect_mapped entry_of maybe if◌then◌else◌ number_of
+  unfolding answer_of inspect_mapped entry_of maybe pick◌then◌else◌ number_of
   unit-unslotted b z p q = rw (z, ← p, q) refl
 
   -- a hole
   pub unit-hole : (b : Bool) → slot ≡ 0 → b ≡ any given (entries blocks) → b ≡ false → Hole ≡ answer_of (inspect_mapped image uuid object size unit (entries blocks) (entry_of slot))
-  unfolding answer_of inspect_mapped entry_of maybe if◌then◌else◌
+  unfolding answer_of inspect_mapped entry_of maybe pick◌then◌else◌
   unit-hole b z p q = rw (z, ← p, q) refl
 
   -- a unit with a slot

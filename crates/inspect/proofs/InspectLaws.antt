@@ -11,7 +11,7 @@ use lib.Dec.{eqb}
 use lib.ListN.{length, take, drop, get_or, get_or-eq_default}
 use lib.Seq.{take_at, drop_at}
 use borrow.Author.Tests.{eqb-true}
-use Rattle.rules.specs.Lists.{if◌then◌else◌, maybe, given, range, all, any, begun}
+use Rattle.rules.specs.Lists.{pick◌then◌else◌, maybe, given, range, all, any, begun}
 use Rattle.rules.specs.Sizes.{block_bytes, unit_blocks}
 use Rattle.rules.specs.Bytes.{all_zero}
 use Rattle.rules.specs.Checksum.{unit_checksum}
@@ -70,8 +70,8 @@ module _ (v : Volume) (object size : ℕ) where
   unfolding inspect_unit inspect_mapped
   inspect-mapped l unit = go (checksum_of v object unit)
     where
-      go : (slot : Option ℕ) → maybe (if backed_under v object unit then damaged no_checksum else hole) (inspect_slot v object size unit) slot
-          ≡ maybe (if any given (unit_mapping v object unit unit_blocks) then damaged no_checksum else hole) (slot_mapped v.image v.uuid object size unit (unit_mapping v object unit unit_blocks)) slot
+      go : (slot : Option ℕ) → maybe (pick backed_under v object unit then damaged no_checksum else hole) (inspect_slot v object size unit) slot
+          ≡ maybe (pick any given (unit_mapping v object unit unit_blocks) then damaged no_checksum else hole) (slot_mapped v.image v.uuid object size unit (unit_mapping v object unit unit_blocks)) slot
       go none = unfold maybe in rw (backed-mapping v object unit (apart-lawful v l)) refl
       go (some crc) = unfold maybe in slot-mapped unit crc
 
@@ -126,8 +126,8 @@ module _ (image uuid : List ℕ) (object size unit : ℕ) (mapped : List (Option
     pub unmapped : (i : ℕ) → get_or mapped i none ≡ none
 
 -- a unit that is no hole: three tests in a row give none
-not-hole : (a b c : Bool) (p q r : Refusal) (xs : List ℕ) → answer_of (if a then damaged p else if b then damaged q else if c then damaged r else checked xs) ≡ Hole → ⊥
-unfolding if◌then◌else◌ answer_of kind_of
+not-hole : (a b c : Bool) (p q r : Refusal) (xs : List ℕ) → answer_of (pick a then damaged p else pick b then damaged q else pick c then damaged r else checked xs) ≡ Hole → ⊥
+unfolding pick◌then◌else◌ answer_of kind_of
 not-hole true b c p q r xs h = kinds-differ (λ z. omega (arith, z)) h
 not-hole false true c p q r xs h = kinds-differ (λ z. omega (arith, z)) h
 not-hole false false true p q r xs h = kinds-differ (λ z. omega (arith, z)) h
@@ -147,9 +147,9 @@ none-given mapped t i = go (dec_lt i (length mapped))
     go (no l) = get_or-eq_default mapped none {n = i} (omega arith)
 
 -- three tests in a row, none of which refused
-none-refused : (a b c : Bool) (p q r : Refusal) (xs : List ℕ) → answer_of (if a then damaged p else if b then damaged q else if c then damaged r else checked xs) ≡ Checked
+none-refused : (a b c : Bool) (p q r : Refusal) (xs : List ℕ) → answer_of (pick a then damaged p else pick b then damaged q else pick c then damaged r else checked xs) ≡ Checked
     → (a ≡ false) × (b ≡ false) × (c ≡ false)
-unfolding if◌then◌else◌ answer_of kind_of
+unfolding pick◌then◌else◌ answer_of kind_of
 none-refused true b c p q r xs h = absurd (kinds-differ (λ z. omega (arith, z)) h)
 none-refused false true c p q r xs h = absurd (kinds-differ (λ z. omega (arith, z)) h)
 none-refused false false true p q r xs h = absurd (kinds-differ (λ z. omega (arith, z)) h)
@@ -158,7 +158,7 @@ none-refused false false false p q r xs h = (refl, refl, refl)
 -- an answer that it is checked says so
 pub answer-checked : (image uuid : List ℕ) (object size unit : ℕ) (mapped : List (Option ℕ)) (slot : Option ℕ)
     → answer_of (inspect_mapped image uuid object size unit mapped slot) ≡ Checked → IsChecked image uuid object size unit mapped slot
-unfolding inspect_mapped slot_mapped answer_of kind_of maybe if◌then◌else◌
+unfolding inspect_mapped slot_mapped answer_of kind_of maybe pick◌then◌else◌
 answer-checked image uuid object size unit mapped none h =
     absurd (if-cases (λ x. answer_of x ≡ Checked → ⊥) (any given mapped) (damaged no_checksum) hole (λ t. kinds-differ (λ z. omega (arith, z))) (λ t. kinds-differ (λ z. omega (arith, z))) h)
 answer-checked image uuid object size unit mapped (some crc) h =
@@ -176,12 +176,12 @@ answer-checked image uuid object size unit mapped (some crc) h =
 -- an answer that it is a hole
 pub answer-hole : (image uuid : List ℕ) (object size unit : ℕ) (mapped : List (Option ℕ)) (slot : Option ℕ)
     → answer_of (inspect_mapped image uuid object size unit mapped slot) ≡ Hole → IsHole image uuid object size unit mapped slot
-unfolding inspect_mapped slot_mapped answer_of kind_of maybe if◌then◌else◌
+unfolding inspect_mapped slot_mapped answer_of kind_of maybe pick◌then◌else◌
 answer-hole image uuid object size unit mapped none h =
     let t : any given mapped ≡ false = go (any given mapped) h in
     record { found = rw t refl; unslotted = refl; unmapped = none-given mapped t }
   where
-    go : (b : Bool) → answer_of (if b then damaged no_checksum else hole) ≡ Hole → b ≡ false
+    go : (b : Bool) → answer_of (pick b then damaged no_checksum else hole) ≡ Hole → b ≡ false
     go true e = absurd (kinds-differ (λ z. omega (arith, z)) e)
     go false e = refl
 answer-hole image uuid object size unit mapped (some crc) h =

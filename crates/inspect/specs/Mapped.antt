@@ -3,7 +3,7 @@
 use mathlib.Core.List.{List, [], ◌∷◌, flat_map}
 use Rattle.std.specs.Prelude.{Bool, not, ℕ, suc, eqb, take, drop}
 use Rattle.std.proofs.Math.Option.{Option}
-use Rattle.rules.specs.Lists.{if◌then◌else◌, maybe, given, all, any, begun}
+use Rattle.rules.specs.Lists.{pick◌then◌else◌, maybe, given, all, any, begun}
 use Rattle.rules.specs.Sizes.{block_bytes, unit_blocks}
 use Rattle.rules.specs.Bytes.{all_zero}
 use Rattle.rules.specs.Checksum.{unit_checksum}
@@ -32,14 +32,14 @@ module _ (image uuid : List ℕ) (object size unit : ℕ) (mapped : List (Option
   -- refusals 10 to 12, for a unit with a slot
   unfoldable pub slot_mapped : ℕ → Inspected
   slot_mapped crc =
-      if not (all given valid_blocks) then damaged not_backed
-      else if not (all_zero (drop (valid_length size unit) (bytes_at image valid_blocks))) then damaged nonzero_past_end
-      else if not (eqb crc (unit_checksum uuid object unit valid_of)) then damaged checksum_differs
+      pick not (all given valid_blocks) then damaged not_backed
+      else pick not (all_zero (drop (valid_length size unit) (bytes_at image valid_blocks))) then damaged nonzero_past_end
+      else pick not (eqb crc (unit_checksum uuid object unit valid_of)) then damaged checksum_differs
       else checked valid_of
 
   -- the unit, read: one with no slot is a hole, after refusal 9
   unfoldable pub inspect_mapped : Option ℕ → Inspected
-  inspect_mapped slot = maybe (if any given mapped then damaged no_checksum else hole) slot_mapped slot
+  inspect_mapped slot = maybe (pick any given mapped then damaged no_checksum else hole) slot_mapped slot
 
 -- units one after another from this one on, each with its slot and its sixteen blocks
 unfoldable pub check_mapped : (image uuid : List ℕ) (object size unit : ℕ) → List (Option ℕ) → List (Option ℕ) → Checked

@@ -8,7 +8,7 @@ use native.Mathlib.Omega.{arith}
 use borrow.Author.Tests.{eqb-true, not-false}
 use lib.Dec.{leb, ltb}
 use lib.ListN.{length}
-use Rattle.rules.specs.Lists.{if◌then◌else◌, all, range}
+use Rattle.rules.specs.Lists.{pick◌then◌else◌, all, range}
 use Rattle.rules.specs.Head.{Head, head_bytes, decode_head}
 use Rattle.rules.specs.Card.{card_bytes}
 use Rattle.rules.specs.Extent.{extent_bytes, decode_extent}
@@ -146,17 +146,17 @@ rule-image i j hd c e g u x = refl
 module _ (s : Store) where
   -- refusal 1 comes
   pub number-one : (r : Bool) → r ≡ length_wrong s → r ≡ true → 1 ≡ store_number s
-  unfolding store_number store_cases first_case if◌then◌else◌ outcome_number number_of
+  unfolding store_number store_cases first_case pick◌then◌else◌ outcome_number number_of
   number-one r p t = rw (← p, t) refl
 
   -- refusal 2 does
   pub number-two : (r q : Bool) → r ≡ length_wrong s → r ≡ false → q ≡ rule_broken s → q ≡ true → 2 ≡ store_number s
-  unfolding store_number store_cases first_case if◌then◌else◌ outcome_number number_of
+  unfolding store_number store_cases first_case pick◌then◌else◌ outcome_number number_of
   number-two r q p t f z = rw (← p, t, ← f, z) refl
 
   -- none does
   pub number-none : (r q : Bool) → r ≡ length_wrong s → r ≡ false → q ≡ rule_broken s → q ≡ false → 0 ≡ store_number s
-  unfolding store_number store_cases first_case if◌then◌else◌ outcome_number number_of
+  unfolding store_number store_cases first_case pick◌then◌else◌ outcome_number number_of
   number-none r q p t f z = rw (← p, t, ← f, z) refl
 
   -- where the number is 0 the store passes
@@ -175,10 +175,10 @@ unfolding store_number store_cases first_case outcome_number result number_of
 stopped s out next n e z =
     test-cases _ (length_wrong s)
     (λ t. let m : n ≡ 1 = e ∙ ap outcome_number (if-true (length_wrong s) (refuse wrong_length) _ t) in
-    rw (m, if-true (length_wrong s) (refuse wrong_length) (if rule_broken s then refuse broken_rule else next) t) refl)
+    rw (m, if-true (length_wrong s) (refuse wrong_length) (pick rule_broken s then refuse broken_rule else next) t) refl)
     (λ t. test-cases _ (rule_broken s)
     (λ u. let m : n ≡ 2 = e ∙ ap outcome_number (if-false (length_wrong s) (refuse wrong_length) _ t ∙ if-true (rule_broken s) (refuse broken_rule) _ u) in
-    rw (m, if-false (length_wrong s) (refuse wrong_length) (if rule_broken s then refuse broken_rule else next) t, if-true (rule_broken s) (refuse broken_rule) next u) refl)
+    rw (m, if-false (length_wrong s) (refuse wrong_length) (pick rule_broken s then refuse broken_rule else next) t, if-true (rule_broken s) (refuse broken_rule) next u) refl)
     (λ u. absurd (z (e ∙ ap outcome_number (if-false (length_wrong s) (refuse wrong_length) _ t ∙ if-false (rule_broken s) (refuse broken_rule) _ u)))))
 
 -- where neither comes the store passes

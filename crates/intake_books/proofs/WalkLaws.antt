@@ -9,7 +9,7 @@ use native.Mathlib.Omega.{arith}
 use borrow.Author.Tests.{eq-eqb, ne_eqb, not-true, not-false}
 use lib.Dec.{eqb}
 use lib.ListN.{length, get_or}
-use Rattle.rules.specs.Lists.{if◌then◌else◌, range, all, neighbours}
+use Rattle.rules.specs.Lists.{pick◌then◌else◌, range, all, neighbours}
 use Rattle.rules.specs.Bytes.{part, pieces}
 use Rattle.rules.specs.Book.{decode_book}
 use Rattle.rules.proofs.ListLaws.{if-false, and_left, and_right, and_intro, all-at, all_of, all_map, all-range-at, all-range-of, ascending-at, ascending-of}
@@ -54,7 +54,7 @@ module _ {A : Type 0} (decode : List ℕ → A) (w : ℕ) (s : List ℕ) where
   module _ (one : List ℕ → Bool) (pair : A → A → Bool) where
     -- the test of the record in front
     pub first-kept : (m : Bool) → m ≡ one (part (w * 0) w s) → m ≡ record_kept one pair decode w s 0
-    unfolding record_kept if◌then◌else◌
+    unfolding record_kept pick◌then◌else◌
     first-kept m e = e ∙ right (one (part (w * 0) w s))
       where
         right : (b : Bool) → b ≡ (b && true)
@@ -119,12 +119,12 @@ module _ {A : Type 0} (decode : List ℕ → A) (w : ℕ) (s : List ℕ) (one : 
 
   -- it does, and is the first
   pub kept-first : not m ≡ false → i ≡ 0 → true ≡ record_kept one pair decode w s i
-  unfolding record_kept if◌then◌else◌
+  unfolding record_kept pick◌then◌else◌
   kept-first t z = rw (← e, not-false m t, eq-eqb i 0 z) refl
 
   -- it does, and stands behind another
   pub kept_next : not m ≡ false → (i ≡ 0 → ⊥) → (k : Bool) → k ≡ pair (record_at decode w s (i - 1)) (record_at decode w s i) → k ≡ record_kept one pair decode w s i
-  unfolding record_kept if◌then◌else◌
+  unfolding record_kept pick◌then◌else◌
   kept_next t z k q = rw (← e, not-false m t, ne_eqb i 0 z, ← q) refl
 
 -- records passed, one after the other

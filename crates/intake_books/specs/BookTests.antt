@@ -1,7 +1,7 @@
 -- Refusal 2 on the books, a book at a time, in the words of rules; and as tests of one record after the other, over any width.
 -- Assumes nothing.
 use Rattle.std.specs.Prelude.{◌≡◌, List, Bool, true, ◌&&◌, ℕ, ◌+◌, ◌-◌, ◌*◌, ◌≤◌, ◌<◌, eqb, ltb, leb}
-use Rattle.rules.specs.Lists.{if◌then◌else◌, all, neighbours, ascending, begun}
+use Rattle.rules.specs.Lists.{pick◌then◌else◌, all, neighbours, ascending, begun}
 use Rattle.rules.specs.Sizes.{block_bytes}
 use Rattle.rules.specs.Bytes.{part, pieces}
 use Rattle.rules.specs.Card.{Card, card_bytes, decode_card, card_spare_zero, card_before}
@@ -41,7 +41,7 @@ group_right p = group_fixed p && absent_zero p
 -- the record at a place passes a test of its bytes, and one with the record before it
 unfoldable pub record_kept : {A : Type 0} → (List ℕ → Bool) → (A → A → Bool) → (List ℕ → A) → ℕ → List ℕ → ℕ → Bool
 record_kept one pair decode w s i =
-    one (part (w * i) w s) && (if eqb i 0 then true else pair (record_at decode w s (i - 1)) (record_at decode w s i))
+    one (part (w * i) w s) && (pick eqb i 0 then true else pair (record_at decode w s (i - 1)) (record_at decode w s i))
 
 -- ---- one book
 

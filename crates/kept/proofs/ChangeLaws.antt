@@ -6,7 +6,7 @@ use Prim.Native.Nat.{ℕ, suc, ◌+◌, ◌-◌, ◌*◌, ◌/◌, ◌≤◌, �
 use native.Mathlib.Omega.{arith}
 use lib.Dec.{ltb, leb}
 use borrow.Author.Tests.{ltb-true, leb-true, leb-false, lt-ltb, le-ltb, lt-leb, le-leb}
-use Rattle.rules.specs.Lists.{if◌then◌else◌}
+use Rattle.rules.specs.Lists.{pick◌then◌else◌}
 use Rattle.rules.specs.Sizes.{unit_bytes}
 use Rattle.rules.specs.Units.{Change, change_end, valid_length, written_in, covers_old, reads_old, written_from, written_to, touches}
 use Rattle.rules.specs.Kept.{intact, blocks_after}
@@ -134,12 +134,12 @@ module _ (start len unit f t : ℕ) (w : written_between start (start + len) (un
 
 module _ (settled start end from i entry : ℕ) where
   -- the block is not inside both valid lengths
-  pub candidate-outside : settled < i * 4096 + 4096 → 0 ≡ (if intact_at settled start end from i then entry else 0)
+  pub candidate-outside : settled < i * 4096 + 4096 → 0 ≡ (pick intact_at settled start end from i then entry else 0)
   unfolding intact_at
   candidate-outside l = sym (if-false (intact_at settled start end from i) entry 0 (rw (lt-leb (suc i * 4096) settled (omega arith)) refl))
 
   -- a written byte falls in it
-  pub candidate-written : true ≡ written_between start end (from + i * 4096) (from + i * 4096 + 4096) → 0 ≡ (if intact_at settled start end from i then entry else 0)
+  pub candidate-written : true ≡ written_between start end (from + i * 4096) (from + i * 4096 + 4096) → 0 ≡ (pick intact_at settled start end from i then entry else 0)
   unfolding intact_at
   candidate-written w =
       let e : from + suc i * 4096 ≡ from + i * 4096 + 4096 = omega arith in
@@ -147,7 +147,7 @@ module _ (settled start end from i entry : ℕ) where
       sym (if-false (intact_at settled start end from i) entry 0 f)
 
   -- it is intact
-  pub candidate-kept : i * 4096 + 4096 ≤ settled → false ≡ written_between start end (from + i * 4096) (from + i * 4096 + 4096) → entry ≡ (if intact_at settled start end from i then entry else 0)
+  pub candidate-kept : i * 4096 + 4096 ≤ settled → false ≡ written_between start end (from + i * 4096) (from + i * 4096 + 4096) → entry ≡ (pick intact_at settled start end from i then entry else 0)
   unfolding intact_at
   candidate-kept l w =
       let e : from + suc i * 4096 ≡ from + i * 4096 + 4096 = omega arith in

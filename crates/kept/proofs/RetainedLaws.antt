@@ -14,7 +14,7 @@ use lib.Dec.{leb}
 use lib.ListN.{length, take, get_or, set, replicate, length-map, length-set, length-replicate, get_or-append, get_or-map, replicate-append-replicate}
 use lib.Seq.{length-take-le, take-suc-set, take_all, take_at, get_or-append-add}
 use borrow.Author.Tests.{lt-leb, le-leb}
-use Rattle.rules.specs.Lists.{if◌then◌else◌, range}
+use Rattle.rules.specs.Lists.{pick◌then◌else◌, range}
 use Rattle.rules.specs.Sizes.{block_bytes, unit_bytes}
 use Rattle.rules.specs.Units.{Change, valid_length}
 use Rattle.rules.specs.Kept.{intact, blocks_after, candidates, runs, within_limit, retained_blocks}
@@ -74,7 +74,7 @@ module _ (settled start end from : ℕ) (old : List ℕ) where
 
   -- one entry
   abbrev entry_at : ℕ → ℕ
-  entry_at i = if intact_at settled start end from i then get_or old i 0 else 0
+  entry_at i = pick intact_at settled start end from i then get_or old i 0 else 0
 
   -- one entry more
   candidate_entries-last : (i : ℕ) → candidate_entries settled start end from (i + 1) old ≡ candidate_entries settled start end from i old ++ (entry_at i ∷ [])
@@ -220,12 +220,12 @@ limited-is limit n kept after l v q =
 module _ (c : Change) (before behind start len : ℕ) (h : IsChange c before behind start len) (limit unit n : ℕ) (old after : List ℕ) where
   -- an entry is the rules' candidate
   candidate-is : (i : ℕ) → entry_of (entry_at (min (valid_length before unit) (valid_length behind unit)) start (start + len) (unit * unit_bytes) old i)
-      ≡ (if true && intact c unit i then get_or (entries old) i none else none)
+      ≡ (pick true && intact c unit i then get_or (entries old) i none else none)
   unfolding entries entry_of
   candidate-is i =
       rw (intact-is c before behind start len h unit i)
       (if-ap entry_of (intact_at (min (valid_length before unit) (valid_length behind unit)) start (start + len) (unit * unit_bytes) i) (get_or old i 0) 0
-      ∙ ap (λ (o : Option ℕ). if intact_at (min (valid_length before unit) (valid_length behind unit)) start (start + len) (unit * unit_bytes) i then o else none) (sym (get_or-map entry_of old i 0)))
+      ∙ ap (λ (o : Option ℕ). pick intact_at (min (valid_length before unit) (valid_length behind unit)) start (start + len) (unit * unit_bytes) i then o else none) (sym (get_or-map entry_of old i 0)))
 
   -- the candidates are those of the rules
   entries-candidates : n ≡ blocks_after c unit → entries (candidate_entries (min (valid_length before unit) (valid_length behind unit)) start (start + len) (unit * unit_bytes) n old) ≡ candidates c unit true (entries old)
@@ -237,7 +237,7 @@ module _ (c : Change) (before behind start len : ℕ) (h : IsChange c before beh
   unfolding retained_blocks
   retained-none verified f l e m q w =
       let t : take n after ≡ replicate n 0 = rw (q, w) (take_same n 16 l) in
-      let z : candidates c unit false (entries old) ≡ replicate n none = unfold candidates if◌then◌else◌ in rw (← e) (map-nothing _ (λ i. refl) 0 n) in
+      let z : candidates c unit false (entries old) ≡ replicate n none = unfold candidates pick◌then◌else◌ in rw (← e) (map-nothing _ (λ i. refl) 0 n) in
       record {
         count = e;
         list = rw (f, t, entries_none n) (sym (rw z (within_none limit n)));

@@ -9,7 +9,7 @@ use native.Mathlib.Omega.{arith}
 use lib.Dec.{eqb}
 use lib.ListN.{length, take, get_or}
 use borrow.Author.Tests.{ne_eqb}
-use Rattle.rules.specs.Lists.{if◌then◌else◌}
+use Rattle.rules.specs.Lists.{pick◌then◌else◌}
 use Rattle.rules.specs.Kept.{continues, runs}
 use Rattle.rules.proofs.ListLaws.{if-true, if-false}
 use Rattle.mapping.specs.Entries.{entry_of, entries}
@@ -49,25 +49,25 @@ runs-few (x ∷ xs) (suc (suc n)) l m = absurd (omega arith)
 
 -- one block more, by the last pair
 pub runs_last : (xs : List ℕ) (m : ℕ) → suc m < length xs
-    → runs (entries (take (suc (suc m)) xs)) ≡ runs (entries (take (suc m) xs)) + (if continues (entry_of (get_or xs m 0)) (entry_of (get_or xs (suc m) 0)) then 0 else 1)
+    → runs (entries (take (suc (suc m)) xs)) ≡ runs (entries (take (suc m) xs)) + (pick continues (entry_of (get_or xs m 0)) (entry_of (get_or xs (suc m) 0)) then 0 else 1)
 unfolding runs entries
 runs_last [] m l = absurd (omega arith)
 runs_last (x ∷ []) m l = absurd (omega arith)
-runs_last (x ∷ y ∷ ys) zero l = add_comm (if continues (entry_of x) (entry_of y) then 0 else 1) 1
+runs_last (x ∷ y ∷ ys) zero l = add_comm (pick continues (entry_of x) (entry_of y) then 0 else 1) 1
 runs_last (x ∷ y ∷ []) (suc m) l = absurd (omega arith)
 runs_last (x ∷ y ∷ z ∷ zs) (suc m) l =
-    let one : ℕ = if continues (entry_of x) (entry_of y) then 0 else 1 in
+    let one : ℕ = pick continues (entry_of x) (entry_of y) then 0 else 1 in
     ap (λ (k : ℕ). one + k) (runs_last (y ∷ z ∷ zs) m (le_of_suc-le-suc l)) ∙ sym (add_assoc one _ _)
 
 module _ (xs : List ℕ) (n before : ℕ) (few : n ≤ length xs) (more : 2 ≤ n) (h : (before ≡ runs (entries (take (n - 1) xs))) × (before ≤ n - 1)) where
   -- the last pair's place
-  last : runs (entries (take n xs)) ≡ before + (if continues (entry_of (get_or xs (n - 2) 0)) (entry_of (get_or xs (n - 1) 0)) then 0 else 1)
+  last : runs (entries (take n xs)) ≡ before + (pick continues (entry_of (get_or xs (n - 2) 0)) (entry_of (get_or xs (n - 1) 0)) then 0 else 1)
   last =
       let e : n ≡ suc (suc (n - 2)) = omega arith in
       let d : n - 1 ≡ suc (n - 2) = omega arith in
       let t : runs (entries (take (suc (n - 2)) xs)) ≡ before = rw (← d) (sym h.0) in
       rw d (ap (λ (k : ℕ). runs (entries (take k xs))) e ∙ runs_last xs (n - 2) (omega arith)
-      ∙ ap (λ (k : ℕ). k + (if continues (entry_of (get_or xs (n - 2) 0)) (entry_of (get_or xs (suc (n - 2)) 0)) then 0 else 1)) t)
+      ∙ ap (λ (k : ℕ). k + (pick continues (entry_of (get_or xs (n - 2) 0)) (entry_of (get_or xs (suc (n - 2)) 0)) then 0 else 1)) t)
 
   -- the last block continues the run of the one before it
   pub runs_same : true ≡ continues (entry_of (get_or xs (n - 2) 0)) (entry_of (get_or xs (n - 1) 0)) → (before ≡ runs (entries (take n xs))) × (before ≤ n)

@@ -11,7 +11,7 @@ use lib.Dec.{eqb, ltb}
 use lib.ListN.{length, take, get_or, set, length-set}
 use lib.Seq.{take-suc-set}
 use borrow.Author.Tests.{ltb-true, ltb-false, eqb-false, not-true, lt-ltb, le-ltb, eq-eqb, ne_eqb}
-use Rattle.rules.specs.Lists.{if◌then◌else◌, range, filter, member, ascending, neighbours, begun}
+use Rattle.rules.specs.Lists.{pick◌then◌else◌, range, filter, member, ascending, neighbours, begun}
 use Rattle.rules.specs.Units.{Change, change_end, touched_units, partial_tail, write_units, grow_units}
 use Rattle.rules.proofs.ListLaws.{test-cases, and_left, and_right, if-true, if-false, filter-yes, filter-no, range-add, length-range, get_or-range, ascending-of, Each, each_more, each_weaken}
 use Rattle.rules.proofs.CountLaws.{member-range-of, member-range-in, each-range, ascending-cons}
@@ -141,7 +141,7 @@ module _ (c : Change) (some' : 0 < length c.bytes) where
   tail_first = tail_before c.old_size c.new_size first
 
   -- the units are the old tail, or none, before those
-  split : (front : List ℕ) → (if ltb c.old_size c.new_size then filter (λ u. not (member u (touched_units c))) (partial_tail c.old_size) else []) ≡ front → write_units c ≡ front ++ range first many
+  split : (front : List ℕ) → (pick ltb c.old_size c.new_size then filter (λ u. not (member u (touched_units c))) (partial_tail c.old_size) else []) ≡ front → write_units c ≡ front ++ range first many
   unfolding write_units
   split front e = rw (e, touched-range) refl
 
@@ -165,7 +165,7 @@ module _ (c : Change) (some' : 0 < length c.bytes) where
   units-bare e f =
       let tail : ℕ = c.old_size / 65536 in
       let P : ℕ → Bool = λ u. not (member u (touched_units c)) in
-      let front : List ℕ = if ltb c.old_size c.new_size then filter P (partial_tail c.old_size) else [] in
+      let front : List ℕ = pick ltb c.old_size c.new_size then filter P (partial_tail c.old_size) else [] in
       split []
       (test-cases (front ≡ []) (ltb c.old_size c.new_size)
       (λ g. if-true (ltb c.old_size c.new_size) (filter P (partial_tail c.old_size)) [] g

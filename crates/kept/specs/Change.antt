@@ -1,7 +1,7 @@
 -- A change to a file as code carries it: four numbers. The bytes themselves say nothing of the units, of what is read and of what is kept.
 -- Assumes nothing.
 use Rattle.std.specs.Prelude.{◌≡◌, Bool, not, ◌&&◌, List, [], ◌∷◌, ℕ, suc, ◌+◌, ◌*◌, ◌/◌, ◌%◌, ◌≤◌, min, max, eqb, ltb, leb, length}
-use Rattle.rules.specs.Lists.{if◌then◌else◌}
+use Rattle.rules.specs.Lists.{pick◌then◌else◌}
 use Rattle.rules.specs.Sizes.{block_bytes, unit_bytes, most_size, most_transfer}
 use Rattle.rules.specs.Units.{Change, change_end, valid_length}
 
@@ -35,4 +35,4 @@ intact_at settled start end from i =
 -- the old tail unit of a file that grows, where it is partial and before the first unit that is touched
 unfoldable pub tail_units : (before after first : ℕ) → List ℕ
 tail_units before after first =
-    if ltb before after && (not (eqb (before % unit_bytes) 0) && ltb (before / unit_bytes) first) then before / unit_bytes ∷ [] else []
+    pick ltb before after && (not (eqb (before % unit_bytes) 0) && ltb (before / unit_bytes) first) then before / unit_bytes ∷ [] else []

@@ -1,7 +1,7 @@
 // Which of a unit's blocks stay where they are.
 ghost use Rattle.std.specs.Prelude.{◌≡◌, ◌++◌, ◌+◌, ◌-◌, ◌*◌, ◌≤◌, ◌<◌, min, length, take, replicate};
 ghost use Rattle.rules.specs.Sizes.{unit_bytes, unit_blocks, most_size};
-ghost use Rattle.rules.specs.Lists.{if◌then◌else◌};
+ghost use Rattle.rules.specs.Lists.{pick◌then◌else◌};
 ghost use Rattle.rules.specs.Units.{Change, valid_length};
 ghost use Rattle.rules.specs.Kept.{continues, runs};
 ghost use Rattle.mapping.specs.Entries.{entry_of, entries};
@@ -54,7 +54,7 @@ fn settled_length(old_size: u64, new_size: u64, unit: u64) -> usize
 // The entry of block `i` of the unit at `start`, or none where the block is not intact.
 fn candidate(settled: usize, offset: u64, len: usize, start: u64, i: usize, entry: u32) -> u32
     requires { (settled ≤ unit_bytes) × (i < unit_blocks) × (offset + len ≤ most_size) × (start ≤ most_size) }
-    ensures { result ≡ (if intact_at settled offset (offset + len) start i then entry else 0) }
+    ensures { result ≡ (pick intact_at settled offset (offset + len) start i then entry else 0) }
 {
     let at = i * BLOCK_BYTES;
     if settled < at + BLOCK_BYTES {

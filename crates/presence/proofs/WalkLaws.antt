@@ -8,7 +8,7 @@ use native.Mathlib.Omega.{arith}
 use lib.Dec.{eqb, ltb}
 use lib.ListN.{length}
 use borrow.Author.Tests.{eqb-true, eq-eqb, ne_eqb, ltb-true, ltb-false, lt-ltb, not-true}
-use Rattle.rules.specs.Lists.{if◌then◌else◌, given, pair_before}
+use Rattle.rules.specs.Lists.{pick◌then◌else◌, given, pair_before}
 use Rattle.rules.specs.Sizes.{group_units}
 use Rattle.rules.specs.Group.{group_bytes, decode_group, checksum_slot}
 use Rattle.rules.specs.Stretches.{most_number}
@@ -192,10 +192,10 @@ walk_ends n s object b a e unit place k w l = record {
 -- rounds that are left: two for each group of the book from the place on, one to come to it and one to look into it, and one more where the walk is not at
 -- the group that stands there. So it is the groups that a walk goes through, whatever the range
 unfoldable pub rounds_left : (n : ℕ) (s : List ℕ) (object unit place : ℕ) → ℕ
-rounds_left n s object unit place = 2 * (n - place) + (if eqb (number_at n s object place) (unit / group_units) then 0 else 1)
+rounds_left n s object unit place = 2 * (n - place) + (pick eqb (number_at n s object place) (unit / group_units) then 0 else 1)
 
 -- whatever they are, one more at most
-one-most : (b : Bool) → (if b then 0 else 1) ≤ 1
+one-most : (b : Bool) → (pick b then 0 else 1) ≤ 1
 one-most b = if-cases (λ k. k ≤ 1) b 0 1 (λ t. omega arith) (λ t. omega arith)
 
 module _ (n : ℕ) (s : List ℕ) (object unit place : ℕ) where
@@ -221,7 +221,7 @@ module _ (f : ℕ → Bool) (a e d h : ℕ) (l : a < e) (slot : NextOf f true a 
       (λ t. let x : h ≡ d = omega (arith, ltb-false d h t, hole.least) in
       absurd (clash (sym (ap f x) ∙ hole.found (omega (arith, x, k))) (slot.found k)))
 
-  pub span-stretch : stretches_from f a e ≡ (if ltb d e then stretch d (h - d) ∷ stretches_from f h e else [])
+  pub span-stretch : stretches_from f a e ≡ (pick ltb d e then stretch d (h - d) ∷ stretches_from f h e else [])
   span-stretch = sym (if-cases (λ rs. rs ≡ stretches_from f a e) (ltb d e) (stretch d (h - d) ∷ stretches_from f h e) []
       (λ t. let k = ltb-true d e t in sym (next-stretch f a d h e slot.least (past_first k) hole.most slot.before hole.before hole.found))
       (λ t. let k : d ≡ e = omega (arith, ltb-false d e t, slot.most) in sym (no-stretch f a e (λ u x y. slot.before u x (omega (arith, y, k))))))

@@ -1,7 +1,7 @@
 -- The units of a file in a book of checksum groups: which of them have a slot, and where a walk over them stands.
 -- Assumes nothing.
 use Rattle.std.specs.Prelude.{◌≡◌, Bool, true, false, not, ◌&&◌, List, ℕ, ◌-◌, ◌*◌, ◌/◌, ◌%◌, ◌≤◌, ◌<◌, eqb, ltb, length}
-use Rattle.rules.specs.Lists.{if◌then◌else◌, maybe, given, range, filter, find, ascending}
+use Rattle.rules.specs.Lists.{pick◌then◌else◌, maybe, given, range, filter, find, ascending}
 use Rattle.rules.specs.Sizes.{group_units}
 use Rattle.rules.specs.Group.{Group, group_bytes, decode_group, group_before, checksum_slot}
 use Rattle.rules.specs.Book.{decode_book}
@@ -36,7 +36,7 @@ Placed n book object unit place = Parted (λ i. group_under object (unit / group
 -- the number of the group at a place, where it is one of the object's; else the greatest of all numbers
 unfoldable pub number_at : (n : ℕ) (book : List ℕ) (object place : ℕ) → ℕ
 number_at n book object place =
-    if ltb place n && eqb (record_at decode_group group_bytes book place).object object then (record_at decode_group group_bytes book place).number
+    pick ltb place n && eqb (record_at decode_group group_bytes book place).object object then (record_at decode_group group_bytes book place).number
     else most_number
 
 -- the stretch of so many units from one on

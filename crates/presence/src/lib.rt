@@ -5,7 +5,7 @@
 #![tactic(auto)]
 
 ghost use Rattle.std.specs.Prelude.{◌≡◌, [], ◌∷◌, ◌+◌, ◌-◌, ◌*◌, ◌/◌, ◌%◌, ◌^◌, ◌≤◌, ◌<◌, min, ltb, length};
-ghost use Rattle.rules.specs.Lists.{if◌then◌else◌, given};
+ghost use Rattle.rules.specs.Lists.{pick◌then◌else◌, given};
 ghost use Rattle.rules.specs.Sizes.{group_units};
 ghost use Rattle.rules.specs.Bytes.{part};
 ghost use Rattle.rules.specs.Group.{group_bytes, decode_group, checksum_slot};
@@ -130,7 +130,7 @@ pub fn next_stretch(groups: &[u8], n: usize, object: u64, from: Position, end: u
     requires groups_right { GroupsRight n groups.now }
     requires unit_lt_end { (from.unit < end) × (end < 2 ^ 63) }
     requires placed { Placed n groups.now object from.unit from.place }
-    ensures end_value { stretches_from (slotted (groups_in n groups.now) object) from.unit end ≡ (if ltb result.first end then stretch result.first (result.end - result.first) ∷ stretches_from (slotted (groups_in n groups.now) object) result.end end else []) }
+    ensures end_value { stretches_from (slotted (groups_in n groups.now) object) from.unit end ≡ (pick ltb result.first end then stretch result.first (result.end - result.first) ∷ stretches_from (slotted (groups_in n groups.now) object) result.end end else []) }
     ensures unit_lt_end_2 { (from.unit < result.end) × (result.first ≤ result.end) × (result.end ≤ end) }
     ensures placed_2 { result.end < end → Placed n groups.now object result.end result.place }
 {

@@ -1,7 +1,7 @@
 -- What a read gives, refusals 1 and 2 past: the rules' read, told of the buffers that it looks into.
 -- Assumes nothing.
 use Rattle.std.specs.Prelude.{◌≡◌, List, ◌++◌, ℕ, ◌+◌, ◌-◌, ◌*◌, ◌/◌, ◌%◌, ◌≤◌, eqb, length, drop}
-use Rattle.rules.specs.Lists.{if◌then◌else◌, maybe, find, begun}
+use Rattle.rules.specs.Lists.{pick◌then◌else◌, maybe, find, begun}
 use Rattle.rules.specs.Sizes.{unit_bytes}
 use Rattle.rules.specs.Bytes.{part}
 use Rattle.rules.specs.Head.{head_bytes, decode_head}
@@ -36,7 +36,7 @@ checked_units image uuid extents groups e g object size offset n =
 -- a read of a file of this size
 unfoldable pub gives_sized : (image uuid extents groups : List ℕ) (e g object offset : ℕ) (out : List ℕ) (size : ℕ) → Gives
 gives_sized image uuid extents groups e g object offset out size =
-    if eqb (read_length size offset (length out)) 0 then gives 0 0 out
+    pick eqb (read_length size offset (length out)) 0 then gives 0 0 out
     else gives_checked (offset % unit_bytes) (read_length size offset (length out)) out
     (checked_units image uuid extents groups e g object size offset (read_length size offset (length out)))
 

@@ -8,7 +8,7 @@ use native.Mathlib.Decide.{dec_lt}
 use native.Mathlib.Omega.{arith}
 use lib.Dec.{eqb}
 use borrow.Author.Tests.{eqb-true, eq-eqb, ne_eqb}
-use Rattle.rules.specs.Lists.{if◌then◌else◌, any, member, count, range, begun}
+use Rattle.rules.specs.Lists.{pick◌then◌else◌, any, member, count, range, begun}
 use Rattle.rules.specs.ReadMany.{Pair, pairs_of, same_pair, different}
 use Rattle.rules.proofs.ListLaws.{test-cases, and_left, and_right, and_intro, any_append, each_weaken}
 use Rattle.rules.proofs.CountLaws.{same_test, count-each, count-nil, count-cons, each-range}
@@ -55,9 +55,9 @@ pair-other object unit o d (u ∷ us) = rw (ne_eqb object o (λ e. d (sym e)), p
 -- ---- one pair more
 
 -- one more pair is a different one where it does not stand before
-pub different-more : (ps : List Pair) (p : Pair) → different (ps ++ p ∷ []) ≡ different ps + (if any (same_pair p) ps then 0 else 1)
+pub different-more : (ps : List Pair) (p : Pair) → different (ps ++ p ∷ []) ≡ different ps + (pick any (same_pair p) ps then 0 else 1)
 unfolding different any
-different-more [] p = if_none (if false then 0 else 1)
+different-more [] p = if_none (pick false then 0 else 1)
   where
     if_none : (n : ℕ) → n + 0 ≡ 0 + n
     if_none n = omega arith
@@ -65,23 +65,23 @@ different-more (x ∷ xs) p =
     let a : Bool = any (same_pair x) xs in
     let b : Bool = any (same_pair p) xs in
     let d : ℕ = different xs in
-    let l : different ((x ∷ xs) ++ p ∷ []) ≡ (if (a || (same_pair x p || false)) then 0 else 1) + (d + (if b then 0 else 1)) = rw (any_append (same_pair x) xs (p ∷ []), different-more xs p) refl in
-    let r : different (x ∷ xs) + (if any (same_pair p) (x ∷ xs) then 0 else 1) ≡ ((if a then 0 else 1) + d) + (if (same_pair p x || b) then 0 else 1) = refl in
+    let l : different ((x ∷ xs) ++ p ∷ []) ≡ (pick (a || (same_pair x p || false)) then 0 else 1) + (d + (pick b then 0 else 1)) = rw (any_append (same_pair x) xs (p ∷ []), different-more xs p) refl in
+    let r : different (x ∷ xs) + (pick any (same_pair p) (x ∷ xs) then 0 else 1) ≡ ((pick a then 0 else 1) + d) + (pick (same_pair p x || b) then 0 else 1) = refl in
     test-cases _ (same_pair x p)
     (λ e. let q : x ≡ p = same-pair x p e in
     let s : a ≡ b = ap (λ (y : Pair). any (same_pair y) xs) q in
-    l ∙ same-joined a b d s (same_pair x p) e ∙ sym (r ∙ ap (λ (c : Bool). ((if a then 0 else 1) + d) + (if (c || b) then 0 else 1)) (same-turned p x)))
-    (λ e. l ∙ same-apart a b d (same_pair x p) e ∙ sym (r ∙ ap (λ (c : Bool). ((if a then 0 else 1) + d) + (if (c || b) then 0 else 1)) (same-turned p x)))
+    l ∙ same-joined a b d s (same_pair x p) e ∙ sym (r ∙ ap (λ (c : Bool). ((pick a then 0 else 1) + d) + (pick (c || b) then 0 else 1)) (same-turned p x)))
+    (λ e. l ∙ same-apart a b d (same_pair x p) e ∙ sym (r ∙ ap (λ (c : Bool). ((pick a then 0 else 1) + d) + (pick (c || b) then 0 else 1)) (same-turned p x)))
   where
-    same-joined : (a b : Bool) (d : ℕ) → a ≡ b → (c : Bool) → c ≡ true → (if (a || (c || false)) then 0 else 1) + (d + (if b then 0 else 1)) ≡ ((if a then 0 else 1) + d) + (if (c || b) then 0 else 1)
-    same-joined true true d s c e = unfold if◌then◌else◌ in rw e (omega arith)
-    same-joined false false d s c e = unfold if◌then◌else◌ in rw e (omega arith)
-    same-joined true false d s c e = unfold if◌then◌else◌ in absurd (omega (arith, ap {A = Bool} {B = ℕ} (λ x. if x then 0 else 1) s))
-    same-joined false true d s c e = unfold if◌then◌else◌ in absurd (omega (arith, ap {A = Bool} {B = ℕ} (λ x. if x then 0 else 1) s))
+    same-joined : (a b : Bool) (d : ℕ) → a ≡ b → (c : Bool) → c ≡ true → (pick (a || (c || false)) then 0 else 1) + (d + (pick b then 0 else 1)) ≡ ((pick a then 0 else 1) + d) + (pick (c || b) then 0 else 1)
+    same-joined true true d s c e = unfold pick◌then◌else◌ in rw e (omega arith)
+    same-joined false false d s c e = unfold pick◌then◌else◌ in rw e (omega arith)
+    same-joined true false d s c e = unfold pick◌then◌else◌ in absurd (omega (arith, ap {A = Bool} {B = ℕ} (λ x. pick x then 0 else 1) s))
+    same-joined false true d s c e = unfold pick◌then◌else◌ in absurd (omega (arith, ap {A = Bool} {B = ℕ} (λ x. pick x then 0 else 1) s))
 
-    same-apart : (a b : Bool) (d : ℕ) (c : Bool) → c ≡ false → (if (a || (c || false)) then 0 else 1) + (d + (if b then 0 else 1)) ≡ ((if a then 0 else 1) + d) + (if (c || b) then 0 else 1)
-    same-apart true b d c e = unfold if◌then◌else◌ in rw e (omega arith)
-    same-apart false b d c e = unfold if◌then◌else◌ in rw e (omega arith)
+    same-apart : (a b : Bool) (d : ℕ) (c : Bool) → c ≡ false → (pick (a || (c || false)) then 0 else 1) + (d + (pick b then 0 else 1)) ≡ ((pick a then 0 else 1) + d) + (pick (c || b) then 0 else 1)
+    same-apart true b d c e = unfold pick◌then◌else◌ in rw e (omega arith)
+    same-apart false b d c e = unfold pick◌then◌else◌ in rw e (omega arith)
 
 -- ---- units of a file after other pairs
 
@@ -91,13 +91,13 @@ unfolding new_units
 new_none ps object = count-nil (λ u. not (any (same_pair (pair_is object u)) ps))
 
 -- the first unit, and the others
-pub new-cons : (ps : List Pair) (object u : ℕ) (us : List ℕ) → new_units ps object (u ∷ us) ≡ (if any (same_pair (pair_is object u)) ps then 0 else 1) + new_units ps object us
+pub new-cons : (ps : List Pair) (object u : ℕ) (us : List ℕ) → new_units ps object (u ∷ us) ≡ (pick any (same_pair (pair_is object u)) ps then 0 else 1) + new_units ps object us
 unfolding new_units
 new-cons ps object u us = count-cons (λ x. not (any (same_pair (pair_is object x)) ps)) u us ∙ ap (λ (k : ℕ). k + count (λ x. not (any (same_pair (pair_is object x)) ps)) us) (turned (any (same_pair (pair_is object u)) ps))
   where
-    turned : (b : Bool) → ◌≡◌ {A = ℕ} (if not b then 1 else 0) (if b then 0 else 1)
-    turned true = unfold if◌then◌else◌ in refl
-    turned false = unfold if◌then◌else◌ in refl
+    turned : (b : Bool) → ◌≡◌ {A = ℕ} (pick not b then 1 else 0) (pick b then 0 else 1)
+    turned true = unfold pick◌then◌else◌ in refl
+    turned false = unfold pick◌then◌else◌ in refl
 
 -- a unit before all of them makes none of them older
 new-behind : (ps : List Pair) (object first k : ℕ) → new_units (ps ++ pair_is object first ∷ []) object (range (suc first) k) ≡ new_units ps object (range (suc first) k)
@@ -123,8 +123,8 @@ different-units (suc k) ps object first =
     let n : ℕ = new_units ps object (range (suc first) k) in
     let j : ps ++ map (pair_is object) (range first (suc k)) ≡ (ps ++ q ∷ []) ++ qs = sym (append_assoc ps (q ∷ []) qs) in
     let h : different ((ps ++ q ∷ []) ++ qs) ≡ different (ps ++ q ∷ []) + n = different-units k (ps ++ q ∷ []) object (suc first) ∙ ap (λ (m : ℕ). different (ps ++ q ∷ []) + m) (new-behind ps object first k) in
-    let w : new_units ps object (range first (suc k)) ≡ (if any (same_pair q) ps then 0 else 1) + n = new-cons ps object first (range (suc first) k) in
-    let m : different (ps ++ q ∷ []) ≡ different ps + (if any (same_pair q) ps then 0 else 1) = different-more ps q in
+    let w : new_units ps object (range first (suc k)) ≡ (pick any (same_pair q) ps then 0 else 1) + n = new-cons ps object first (range (suc first) k) in
+    let m : different (ps ++ q ∷ []) ≡ different ps + (pick any (same_pair q) ps then 0 else 1) = different-more ps q in
     ap different j ∙ h ∙ omega (arith, w, m)
 
 -- so for the units of a read

@@ -7,7 +7,7 @@ use Prim.Native.Nat.{ℕ, suc, ◌+◌, ◌-◌, ◌/◌, ◌≤◌, ◌<◌}
 use native.Mathlib.Omega.{arith}
 use lib.Dec.{eqb}
 use borrow.Author.Tests.{eq-eqb, ne_eqb, eqb-true}
-use Rattle.rules.specs.Lists.{if◌then◌else◌, any, range, begun}
+use Rattle.rules.specs.Lists.{pick◌then◌else◌, any, range, begun}
 use Rattle.rules.specs.Sizes.{unit_bytes}
 use Rattle.rules.specs.Units.{units_of}
 use Rattle.rules.specs.Read.{read_length}
@@ -51,7 +51,7 @@ module _ {A : Type 0} (f : A → ℕ) where
 module _ (b : Looked) (object size unit made : ℕ) (ps : List Pair) (m : Bool) (e : m ≡ any (same_pair (pair_is object unit)) ps) where
   -- an earlier read touches it
   pub new-seen : m ≡ true → (any (same_pair (pair_is object unit)) ps ≡ true → unit_number b object size unit ≡ 0)
-      → (0 ≡ unit_number b object size unit) × (made ≡ made + (if any (same_pair (pair_is object unit)) ps then 0 else 1))
+      → (0 ≡ unit_number b object size unit) × (made ≡ made + (pick any (same_pair (pair_is object unit)) ps then 0 else 1))
   new-seen t h =
       let s : any (same_pair (pair_is object unit)) ps ≡ true = sym e ∙ t in
       let zero_more : made + 0 ≡ made = omega arith in
@@ -59,7 +59,7 @@ module _ (b : Looked) (object size unit made : ℕ) (ps : List Pair) (m : Bool) 
 
   -- none does
   pub new-inspected : m ≡ false → (r k : ℕ) → (r ≡ unit_number b object size unit) × (k ≡ made + 1)
-      → (r ≡ unit_number b object size unit) × (k ≡ made + (if any (same_pair (pair_is object unit)) ps then 0 else 1))
+      → (r ≡ unit_number b object size unit) × (k ≡ made + (pick any (same_pair (pair_is object unit)) ps then 0 else 1))
   new-inspected t r k h = (h.0, h.1 ∙ sym (ap (λ (n : ℕ). made + n) (if-false (any (same_pair (pair_is object unit)) ps) 0 1 (sym e ∙ t))))
 
 -- ---- the units of a read
@@ -100,7 +100,7 @@ module _ (b : Looked) (object size first k made : ℕ) (ps : List Pair) where
 
   module _ (j now : ℕ) (h : Passed j now) where
     -- the next is refused
-    pub passed-stop : j < k → (r c : ℕ) → (r ≡ unit_number b object size (first + j)) × (c ≡ now + (if any (same_pair (pair_is object (first + j))) ps then 0 else 1)) → (r ≡ 0 → ⊥)
+    pub passed-stop : j < k → (r c : ℕ) → (r ≡ unit_number b object size (first + j)) × (c ≡ now + (pick any (same_pair (pair_is object (first + j))) ps then 0 else 1)) → (r ≡ 0 → ⊥)
         → (r ≡ first_number (unit_number b object size) (range first k)) × (r ≡ 0 → c ≡ made + new_units ps object (range first k)) × (c ≤ made + k)
     passed-stop l r c x z = (
       sym (h.numbers ∙ ap (first_number (unit_number b object size)) (range-here first j k l) ∙ first-stop (unit_number b object size) (first + j) (range (first + (j + 1)) (k - (j + 1))) (λ y. z (x.0 ∙ y)) ∙ sym x.0),
@@ -109,9 +109,9 @@ module _ (b : Looked) (object size first k made : ℕ) (ps : List Pair) where
     )
 
     -- the next passes
-    pub passed-more : j < k → (r c : ℕ) → (r ≡ unit_number b object size (first + j)) × (c ≡ now + (if any (same_pair (pair_is object (first + j))) ps then 0 else 1)) → r ≡ 0 → Passed (j + 1) c
+    pub passed-more : j < k → (r c : ℕ) → (r ≡ unit_number b object size (first + j)) × (c ≡ now + (pick any (same_pair (pair_is object (first + j))) ps then 0 else 1)) → r ≡ 0 → Passed (j + 1) c
     passed-more l r c x z =
-        let one : new_units ps object (range (first + j) 1) ≡ (if any (same_pair (pair_is object (first + j))) ps then 0 else 1) + 0 = unfold range in (new-cons ps object (first + j) [] ∙ ap (λ (n : ℕ). (if any (same_pair (pair_is object (first + j))) ps then 0 else 1) + n) (new_none ps object)) in
+        let one : new_units ps object (range (first + j) 1) ≡ (pick any (same_pair (pair_is object (first + j))) ps then 0 else 1) + 0 = unfold range in (new-cons ps object (first + j) [] ∙ ap (λ (n : ℕ). (pick any (same_pair (pair_is object (first + j))) ps then 0 else 1) + n) (new_none ps object)) in
         let both : new_units ps object (range first (j + 1)) ≡ new_units ps object (range first j) + new_units ps object (range (first + j) 1) = ap (new_units ps object) (range-add first j 1) ∙ new-append (range first j) (range (first + j) 1) in
         record {
           within = omega (arith, l);

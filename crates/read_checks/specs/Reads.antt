@@ -3,7 +3,7 @@
 use Rattle.std.specs.Prelude.{◌≡◌, not, ℕ, ◌+◌, eqb, get_or}
 use mathlib.Core.List.{List, [], ◌∷◌, flat_map}
 use Rattle.std.proofs.Math.Option.{Option, some}
-use Rattle.rules.specs.Lists.{if◌then◌else◌, maybe, any, find, count, range}
+use Rattle.rules.specs.Lists.{pick◌then◌else◌, maybe, any, find, count, range}
 use Rattle.rules.specs.Head.{decode_head}
 use Rattle.rules.specs.Card.{Card, card_bytes, decode_card}
 use Rattle.rules.specs.Book.{decode_book}
@@ -31,7 +31,7 @@ looked image head extents groups = record { image = image; head = head; extents 
 -- the first number that is not 0, or 0
 unfoldable pub first_number : {A : Type 0} → (A → ℕ) → List A → ℕ
 first_number f [] = 0
-first_number f (x ∷ xs) = if eqb (f x) 0 then first_number f xs else f x
+first_number f (x ∷ xs) = pick eqb (f x) 0 then first_number f xs else f x
 
 -- the number that refuses a unit of object's file of this size, 9 to 12, or 0
 unfoldable pub unit_number : Looked → (object size unit : ℕ) → ℕ

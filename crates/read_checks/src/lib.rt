@@ -5,7 +5,7 @@
 #![tactic(auto)]
 
 ghost use Rattle.std.specs.Prelude.{◌≡◌, true, ℕ, ◌+◌, ◌*◌, ◌/◌, ◌^◌, ◌≤◌, ◌<◌, length};
-ghost use Rattle.rules.specs.Lists.{if◌then◌else◌, any, range};
+ghost use Rattle.rules.specs.Lists.{pick◌then◌else◌, any, range};
 ghost use Rattle.rules.specs.Sizes.{unit_bytes};
 ghost use Rattle.rules.specs.Head.{head_bytes, decode_head};
 ghost use Rattle.rules.specs.Triples.{triple_bytes, most_triples};
@@ -133,7 +133,7 @@ fn check_new(
     requires unit_bytes_bound { unit * unit_bytes < size }
     requires made_bound { made + 1 < 2 ^ 64 }
     requires unit_value { any (same_pair (pair_is object unit)) (pairs_before list.now sizes.now i) ≡ true → unit_number (looked image.now head.now extents.now groups.now) object size unit ≡ 0 }
-    ensures { (result.number ≡ unit_number (looked image.now head.now extents.now groups.now) object size unit) × (result.made ≡ made + (if any (same_pair (pair_is object unit)) (pairs_before list.now sizes.now i) then 0 else 1)) }
+    ensures { (result.number ≡ unit_number (looked image.now head.now extents.now groups.now) object size unit) × (result.made ≡ made + (pick any (same_pair (pair_is object unit)) (pairs_before list.now sizes.now i) then 0 else 1)) }
 {
     if seen_before(list, sizes, i, object, unit) {
         return Checks { number: 0, made };

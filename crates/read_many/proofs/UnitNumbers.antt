@@ -9,7 +9,7 @@ use lib.Dec.{eqb}
 use lib.ListN.{take, drop}
 use lib.Seq.{take_at, drop_at}
 use borrow.Author.Tests.{ne_eqb}
-use Rattle.rules.specs.Lists.{if◌then◌else◌, range}
+use Rattle.rules.specs.Lists.{pick◌then◌else◌, range}
 use Rattle.rules.specs.Sizes.{unit_blocks}
 use Rattle.rules.specs.Extent.{mapping}
 use Rattle.rules.specs.Group.{group_bytes, decode_group}
@@ -30,13 +30,13 @@ use Rattle.read.specs.Range.{checked_range}
 use Rattle.read_checks.specs.Reads.{first_number}
 
 -- a unit's number, or that of the units behind it
-then-number : (valid : ℕ) (x : Inspected) (rest : Checked) → checked_number (then_units valid x rest) ≡ (if eqb (inspected_number x) 0 then checked_number rest else inspected_number x)
+then-number : (valid : ℕ) (x : Inspected) (rest : Checked) → checked_number (then_units valid x rest) ≡ (pick eqb (inspected_number x) 0 then checked_number rest else inspected_number x)
 unfolding then_units checked_number inspected_number
 then-number valid (damaged r) rest = sym (if-false (eqb (number_of r) 0) (checked_number rest) (number_of r) (ne_eqb (number_of r) 0 (λ e. absurd (omega (arith, e, (numbered r).least)))))
-then-number valid hole (failed r) = unfold follow if◌then◌else◌ in refl
-then-number valid hole (bytes xs) = unfold follow if◌then◌else◌ in refl
-then-number valid (checked ys) (failed r) = unfold follow if◌then◌else◌ in refl
-then-number valid (checked ys) (bytes xs) = unfold follow if◌then◌else◌ in refl
+then-number valid hole (failed r) = unfold follow pick◌then◌else◌ in refl
+then-number valid hole (bytes xs) = unfold follow pick◌then◌else◌ in refl
+then-number valid (checked ys) (failed r) = unfold follow pick◌then◌else◌ in refl
+then-number valid (checked ys) (bytes xs) = unfold follow pick◌then◌else◌ in refl
 
 -- of a unit with none behind it
 last-number : (valid : ℕ) (x : Inspected) → checked_number (then_units valid x (bytes [])) ≡ inspected_number x
@@ -84,6 +84,6 @@ module _ (image uuid extents groups : List ℕ) (e g object size : ℕ) where
     where
       joined : checked_number (checked_range image uuid extents groups e g object size first 1) ≡ inspected_number (looked first)
           → checked_number (checked_range image uuid extents groups e g object size (suc first) n) ≡ first_number (λ u. checked_number (checked_range image uuid extents groups e g object size u 1)) (range (suc first) n)
-          → (if eqb (inspected_number (looked first)) 0 then checked_number (checked_range image uuid extents groups e g object size (suc first) n) else inspected_number (looked first))
+          → (pick eqb (inspected_number (looked first)) 0 then checked_number (checked_range image uuid extents groups e g object size (suc first) n) else inspected_number (looked first))
           ≡ first_number (λ u. checked_number (checked_range image uuid extents groups e g object size u 1)) (range first (suc n))
       joined o h = unfold range first_number in rw (sym o, h) refl

@@ -2,7 +2,7 @@
 -- Assumes nothing.
 use mathlib.Core.List.{List, [], ◌∷◌, ◌++◌, flat_map}
 use Rattle.std.specs.Prelude.{ℕ, eqb, take, drop}
-use Rattle.rules.specs.Lists.{if◌then◌else◌}
+use Rattle.rules.specs.Lists.{pick◌then◌else◌}
 use Rattle.rules.specs.Refusal.{number_of}
 use Rattle.rules.specs.Refusal.Refusal.{bad_reads}
 use Rattle.rules.specs.Triples.{Triple, decode_triples}
@@ -20,9 +20,9 @@ module _ (b : Looked) (cards : List ℕ) where
   -- the reads of a list: the first refusal, or the number of different units and the buffer
   unfoldable pub gives_all : List Triple → List ℕ → Gives
   gives_all ts out =
-      if eqb (first_number (read_number b cards) ts) 0 then gives 0 (different (flat_map (pairs_touched b.head cards) ts)) (handed_all ts out)
+      pick eqb (first_number (read_number b cards) ts) 0 then gives 0 (different (flat_map (pairs_touched b.head cards) ts)) (handed_all ts out)
       else gives (first_number (read_number b cards) ts) 0 out
 
   -- 17 first
   unfoldable pub gives_many : List ℕ → List ℕ → Gives
-  gives_many list out = if reads_wrong list out then gives (number_of bad_reads) 0 out else gives_all (decode_triples list) out
+  gives_many list out = pick reads_wrong list out then gives (number_of bad_reads) 0 out else gives_all (decode_triples list) out

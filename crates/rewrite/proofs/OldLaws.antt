@@ -7,7 +7,7 @@ use native.Mathlib.Omega.{arith}
 use lib.Dec.{ltb}
 use lib.ListN.{replicate, length-replicate}
 use borrow.Author.Tests.{ltb-true, not-true, not-false}
-use Rattle.rules.specs.Lists.{if◌then◌else◌}
+use Rattle.rules.specs.Lists.{pick◌then◌else◌}
 use Rattle.rules.specs.Sizes.{unit_bytes}
 use Rattle.rules.specs.Units.{Change, touches, reads_old, covers_old, valid_length}
 use Rattle.rules.specs.Inspect as rules
@@ -24,7 +24,7 @@ use Rattle.rewrite.specs.Steps.{read_as, old_as}
 -- what an answer makes known, where the unit is touched or not
 unfoldable known : Bool → Inspected → Old
 known t (Damaged n) = Refused n
-known t Hole = if t then Unread else Untouched
+known t Hole = pick t then Unread else Untouched
 known t Checked = Verified
 
 -- a unit whose old bytes are read has some

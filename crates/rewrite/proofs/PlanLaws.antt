@@ -7,7 +7,7 @@ use mathlib.Core.Option.{Option, none, some}
 use Prim.Native.Nat.{ℕ, ◌-◌, ◌<◌}
 use native.Mathlib.Omega.{arith}
 use lib.ListN.{length, take}
-use Rattle.rules.specs.Lists.{if◌then◌else◌}
+use Rattle.rules.specs.Lists.{pick◌then◌else◌}
 use Rattle.rules.specs.Sizes.{unit_blocks}
 use Rattle.rules.specs.Store.{Volume}
 use Rattle.rules.specs.Refusal.{Refusal, number_of}
@@ -63,14 +63,14 @@ module _ (limit : ℕ) (v : Volume) (c : Change) (unit : ℕ) where
         × (found_checked i ≡ true)
 
     -- a hole that was read
-    means-hole : (t : Bool) → touches c unit ≡ t → OldMeansOf (if t then rewrite_from limit v c unit p false [] else untouched) hole (if t then Unread else Untouched)
-    unfolding rewrite_from found_bytes found_checked if◌then◌else◌
+    means-hole : (t : Bool) → touches c unit ≡ t → OldMeansOf (pick t then rewrite_from limit v c unit p false [] else untouched) hole (pick t then Unread else Untouched)
+    unfolding rewrite_from found_bytes found_checked pick◌then◌else◌
     means-hole true e = (refl, refl)
     means-hole false e = (refl, e)
 
     -- a unit that was read or not, and what it was found to be
-    means-found : (b : Bool) (i : Inspected) → OldMeansOf (if b then after_read limit v c unit p i else rewrite_from limit v c unit p false []) (if b then i else hole) (if b then read_as c unit i else Unread)
-    unfolding rewrite_from after_read found_bytes found_checked read_as step_number if◌then◌else◌
+    means-found : (b : Bool) (i : Inspected) → OldMeansOf (pick b then after_read limit v c unit p i else rewrite_from limit v c unit p false []) (pick b then i else hole) (pick b then read_as c unit i else Unread)
+    unfolding rewrite_from after_read found_bytes found_checked read_as step_number pick◌then◌else◌
     means-found false i = (refl, refl)
     means-found true (damaged r) = (refl, number-some r)
     means-found true hole = means-hole (touches c unit) refl
@@ -105,9 +105,9 @@ module _ (limit : ℕ) (v : Volume) (c : Change) (unit : ℕ) where
       laid = lay_out v c unit bytes kept (given_blocks v.blocks v.used p.taken p.hint kept)
 
       -- the number by the tests of 13 and 14
-      number-of : (a b : Bool) → step_number (if a then stopped no_space else if b then stopped count_disagrees else rewritten laid)
-          ≡ (if a then number_of no_space else if b then number_of count_disagrees else 0)
-      unfolding step_number if◌then◌else◌
+      number-of : (a b : Bool) → step_number (pick a then stopped no_space else pick b then stopped count_disagrees else rewritten laid)
+          ≡ (pick a then number_of no_space else pick b then number_of count_disagrees else 0)
+      unfolding step_number pick◌then◌else◌
       number-of true b = refl
       number-of false true = refl
       number-of false false = refl
@@ -119,9 +119,9 @@ module _ (limit : ℕ) (v : Volume) (c : Change) (unit : ℕ) where
       lay-number = number-of (too_few v.blocks v.used p.taken (wanted kept)) (is_count_off p.allocated laid)
 
       -- the step where the number is 0
-      step_of : (a b : Bool) → ◌≡◌ {A = ℕ} (if a then number_of no_space else if b then number_of count_disagrees else 0) 0
-          → ((if a then stopped no_space else if b then stopped count_disagrees else rewritten laid) ≡ rewritten laid) × (a ≡ false)
-      unfolding number_of if◌then◌else◌
+      step_of : (a b : Bool) → ◌≡◌ {A = ℕ} (pick a then number_of no_space else pick b then number_of count_disagrees else 0) 0
+          → ((pick a then stopped no_space else pick b then stopped count_disagrees else rewritten laid) ≡ rewritten laid) × (a ≡ false)
+      unfolding number_of pick◌then◌else◌
       step_of true b h = absurd (omega (arith, h))
       step_of false true h = absurd (omega (arith, h))
       step_of false false h = (refl, refl)

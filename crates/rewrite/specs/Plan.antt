@@ -2,7 +2,7 @@
 -- Assumes nothing.
 use Rattle.std.specs.Prelude.{List, [], ◌∷◌, Bool, true, false, ℕ, take, drop}
 use Rattle.std.proofs.Math.Option.{Option, none, some}
-use Rattle.rules.specs.Lists.{if◌then◌else◌}
+use Rattle.rules.specs.Lists.{pick◌then◌else◌}
 use Rattle.rules.specs.Sizes.{unit_blocks}
 use Rattle.rules.specs.Checksum.{unit_checksum}
 use Rattle.rules.specs.Store.{Volume}
@@ -35,7 +35,7 @@ new_of (none ∷ kept) (b ∷ blocks) = b ∷ new_of kept blocks
 module _ (v : Volume) (c : Change) (unit : ℕ) where
   -- what stood in it, as far as it is read
   unfoldable pub old_read : Inspected
-  old_read = if reads_old c unit then inspect_unit v c.object c.old_size unit else hole
+  old_read = pick reads_old c unit then inspect_unit v c.object c.old_size unit else hole
 
   -- its old bytes: none where they are not read or there are none
   unfoldable pub old_bytes : List ℕ

@@ -2,7 +2,7 @@
 -- Assumes nothing.
 use Rattle.std.specs.Prelude.{List, Bool, ◌||◌, ℕ, ◌+◌, ◌-◌, ltb, length}
 use Rattle.std.proofs.Math.Option.{Option}
-use Rattle.rules.specs.Lists.{if◌then◌else◌}
+use Rattle.rules.specs.Lists.{pick◌then◌else◌}
 use Rattle.rules.specs.Sizes.{most_allocated}
 use Rattle.rules.specs.Refusal.{number_of}
 use Rattle.rules.specs.Refusal.Refusal.{no_space, count_disagrees}
@@ -17,12 +17,12 @@ use Rattle.rewrite.specs.declared.Old.TheVariants.{Refused, Untouched, Unread, V
 -- what is known of a unit that was read and found to be this
 unfoldable pub read_as : Change → ℕ → Inspected → Old
 read_as c unit (damaged r) = Refused (number_of r)
-read_as c unit hole = if touches c unit then Unread else Untouched
+read_as c unit hole = pick touches c unit then Unread else Untouched
 read_as c unit (checked xs) = Verified
 
 -- what is known of a unit that reading would find to be this
 unfoldable pub old_as : Change → ℕ → Inspected → Old
-old_as c unit i = if reads_old c unit then read_as c unit i else Unread
+old_as c unit i = pick reads_old c unit then read_as c unit i else Unread
 
 -- a count of blocks after a unit that loses so many and gains so many
 unfoldable pub count_after : (allocated gone new : ℕ) → ℕ
@@ -41,6 +41,6 @@ module _ (total : ℕ) (used : ℕ → Bool) (taken : List ℕ) (hint : ℕ) whe
   -- the number of the refusal of a unit with these old blocks that keeps these, 13 or 14, or 0; before it there was this count
   unfoldable pub lay_number : (allocated : ℕ) (old kept : List (Option ℕ)) → ℕ
   lay_number allocated old kept =
-      if too_few total used taken (wanted kept) then number_of no_space
-      else if count_wrong allocated (length (superseded old kept)) (length (given_blocks kept)) then number_of count_disagrees
+      pick too_few total used taken (wanted kept) then number_of no_space
+      else pick count_wrong allocated (length (superseded old kept)) (length (given_blocks kept)) then number_of count_disagrees
       else 0

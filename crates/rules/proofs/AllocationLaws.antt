@@ -10,7 +10,7 @@ use native.Mathlib.Omega.{arith}
 use lib.Dec.{eqb, ltb}
 use lib.ListN.{length, take, length-take}
 use borrow.Author.Tests.{ltb-true, ltb-false, lt-ltb, le-ltb, not-true}
-use Rattle.rules.specs.Lists.{if◌then◌else◌, maybe, range, filter, count, first_given, member, ascending}
+use Rattle.rules.specs.Lists.{pick◌then◌else◌, maybe, range, filter, count, first_given, member, ascending}
 use Rattle.rules.specs.Sizes.{group_blocks, most_blocks}
 use Rattle.rules.specs.Allocation.{allocation_groups, group_order, group_start, group_end, highest, cursor, searched, available, found, sorted, found_first, too_few, run_in, first_run, allocate_data, hint_after}
 use Rattle.rules.proofs.ListLaws.{test-cases, clash, member-append, maybe-some, maybe-cases, if-cases, and_left, and_right, and_intro, order-cases, length-range, all-range-at, range-add, Each, each-any, each_weaken, each_map, map_each}
@@ -153,7 +153,7 @@ pub cursor-in : (blocks : ℕ) (taken : List ℕ) (g : ℕ) → (group_start g �
 unfolding cursor
 cursor-in blocks taken g =
     let P : ℕ → Type 0 = λ c. (group_start g ≤ c) × (c - group_start g ≤ group_end blocks g - group_start g) in
-    maybe-cases P (group_start g) (λ b. if eqb (suc b) (group_end blocks g) then group_start g else suc b) (highest blocks taken g)
+    maybe-cases P (group_start g) (λ b. pick eqb (suc b) (group_end blocks g) then group_start g else suc b) (highest blocks taken g)
     (λ e. omega arith)
     (λ b e. let h = highest-in blocks taken g b e in
     if-cases P (eqb (suc b) (group_end blocks g)) (group_start g) (suc b) (λ q. omega arith) (λ q. omega arith))

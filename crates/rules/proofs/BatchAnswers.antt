@@ -10,7 +10,7 @@ use native.Mathlib.Omega.{arith}
 use lib.Dec.{eqb}
 use lib.ListN.{length, take}
 use borrow.Author.Tests.{ne_eqb}
-use Rattle.rules.specs.Lists.{if◌then◌else◌, any, member}
+use Rattle.rules.specs.Lists.{pick◌then◌else◌, any, member}
 use Rattle.rules.specs.Sizes.{most_runs}
 use Rattle.rules.specs.Time.{Time}
 use Rattle.rules.specs.Store.{Store, Volume, decode, card_of}
@@ -159,7 +159,7 @@ writes-answer {number = number} p (one-done {done = done} e d) = and_none (membe
 
 -- a batch was refused exactly where it answers so
 pub batch-told : (list bytes : List ℕ) (time : Time) (s : Store) → act_refused (batch list bytes time) s ≡ answers_refused (write_batch list bytes time s)
-unfolding act_refused answers_refused write_batch batch_cases store_cases number_of any member unless if◌then◌else◌
+unfolding act_refused answers_refused write_batch batch_cases store_cases number_of any member unless pick◌then◌else◌
 batch-told list bytes time s = go (length_wrong s) (rule_broken s) (batch_wrong list bytes) (batch_from (decode_triples list) bytes time 0 s) goes
   where
     d : Done time (decode_triples list) bytes 0 s (batch_from (decode_triples list) bytes time 0 s)

@@ -9,7 +9,7 @@ use native.Mathlib.Omega.{arith}
 use lib.Dec.{eqb}
 use lib.ListN.{length, take, drop}
 use borrow.Author.Tests.{eqb-true, eq-eqb, ne_eqb, not-false}
-use Rattle.rules.specs.Lists.{if◌then◌else◌, any}
+use Rattle.rules.specs.Lists.{pick◌then◌else◌, any}
 use Rattle.rules.specs.Sizes.{most_runs}
 use Rattle.rules.specs.Bytes.{Bytes, le, part}
 use Rattle.rules.specs.Time.{Time}
@@ -39,7 +39,7 @@ pub data Tried (cases : List Case) (s : Store) (next : Result) : Bool → Result
 
 -- so it is
 pub tried : (cases : List Case) (s : Store) (next : Result) → Tried cases s next (any (λ c. c.holds) cases) (unless cases s next)
-unfolding any unless if◌then◌else◌
+unfolding any unless pick◌then◌else◌
 tried [] s next = went_on tt
 tried (c ∷ cs) s next = go c.holds refl (tried cs s next)
   where
@@ -48,7 +48,7 @@ tried (c ∷ cs) s next = go c.holds refl (tried cs s next)
     later e (went_on n) = went_on (e, n)
 
     go : (h : Bool) → c.holds ≡ h → Tried cs s next (any (λ c. c.holds) cs) (unless cs s next)
-        → Tried (c ∷ cs) s next (h || any (λ c. c.holds) cs) (if h then batch_gives (number_of c.refusal) 0 s else unless cs s next)
+        → Tried (c ∷ cs) s next (h || any (λ c. c.holds) cs) (pick h then batch_gives (number_of c.refusal) 0 s else unless cs s next)
     go true e k = refused (record { number = numbered c.refusal; count = refl; store = refl; buffer = refl })
     go false e k = later e k
 

@@ -10,20 +10,20 @@ use lib.Dec.{eqb}
 use lib.ListN.{length, get_or, replicate, get_or-eq_default}
 use lib.Seq.{ext_get_or}
 use borrow.Author.Tests.{eqb-true, eqb-false}
-use Rattle.rules.specs.Lists.{if◌then◌else◌}
+use Rattle.rules.specs.Lists.{pick◌then◌else◌}
 use Rattle.rules.specs.Bytes.{Bytes, bit_set, byte_of, bit_bytes}
 use Rattle.rules.proofs.ListLaws.{test-cases, get_or-same}
 use Rattle.rules.proofs.ByteLaws.{bytes-cons}
 
 -- a test as a bit
-bit-lt : (b : Bool) → (if b then 1 else 0) < 2
-unfolding if◌then◌else◌
+bit-lt : (b : Bool) → (pick b then 1 else 0) < 2
+unfolding pick◌then◌else◌
 bit-lt true = omega arith
 bit-lt false = omega arith
 
 -- the bit says the test
-bit_is : (b : Bool) → eqb (if b then 1 else 0) 1 ≡ b
-unfolding if◌then◌else◌
+bit_is : (b : Bool) → eqb (pick b then 1 else 0) 1 ≡ b
+unfolding pick◌then◌else◌
 bit_is true = refl
 bit_is false = refl
 
@@ -32,7 +32,7 @@ pub byte_of-lt : (n : ℕ) (f : ℕ → Bool) (k : ℕ) → byte_of n f k < 2 ^ 
 unfolding byte_of
 byte_of-lt zero f k = omega arith
 byte_of-lt (suc n) f k =
-    let b : (if f k then 1 else 0) < 2 = bit-lt (f k) in
+    let b : (pick f k then 1 else 0) < 2 = bit-lt (f k) in
     let h : byte_of n f (suc k) < 2 ^ n = byte_of-lt n f (suc k) in
     rw (pow-succ' 2 n) (omega arith)
 
@@ -41,16 +41,16 @@ shift_suc : (x i : ℕ) → x / 2 ^ suc i ≡ x / 2 / 2 ^ i
 shift_suc x i = rw (pow-succ' 2 i) (sym (div-div-eq-div-mul x 2 (2 ^ i)))
 
 -- bit i of the number is test k + i
-pub bit-byte_of : (n : ℕ) (f : ℕ → Bool) (k i : ℕ) → i < n → byte_of n f k / 2 ^ i % 2 ≡ (if f (k + i) then 1 else 0)
+pub bit-byte_of : (n : ℕ) (f : ℕ → Bool) (k i : ℕ) → i < n → byte_of n f k / 2 ^ i % 2 ≡ (pick f (k + i) then 1 else 0)
 unfolding byte_of
 bit-byte_of zero f k i l = absurd (not-suc-le-zero l)
 bit-byte_of (suc n) f k zero l =
-    let b : (if f k then 1 else 0) < 2 = bit-lt (f k) in
-    rw (add-zero k, div-one ((if f k then 1 else 0) + 2 * byte_of n f (suc k))) (omega arith)
+    let b : (pick f k then 1 else 0) < 2 = bit-lt (f k) in
+    rw (add-zero k, div-one ((pick f k then 1 else 0) + 2 * byte_of n f (suc k))) (omega arith)
 bit-byte_of (suc n) f k (suc i) l =
-    let b : (if f k then 1 else 0) < 2 = bit-lt (f k) in
-    let d : ((if f k then 1 else 0) + 2 * byte_of n f (suc k)) / 2 ≡ byte_of n f (suc k) = omega arith in
-    rw (shift_suc ((if f k then 1 else 0) + 2 * byte_of n f (suc k)) i, d, add-suc k i, ← suc-add k i) (bit-byte_of n f (suc k) i (le_of_suc-le-suc l))
+    let b : (pick f k then 1 else 0) < 2 = bit-lt (f k) in
+    let d : ((pick f k then 1 else 0) + 2 * byte_of n f (suc k)) / 2 ≡ byte_of n f (suc k) = omega arith in
+    rw (shift_suc ((pick f k then 1 else 0) + 2 * byte_of n f (suc k)) i, d, add-suc k i, ← suc-add k i) (bit-byte_of n f (suc k) i (le_of_suc-le-suc l))
 
 -- so many bytes
 pub length-bit_bytes : (n : ℕ) (f : ℕ → Bool) (k : ℕ) → length (bit_bytes n f k) ≡ n

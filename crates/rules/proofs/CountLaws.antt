@@ -10,7 +10,7 @@ use native.Mathlib.Omega.{arith}
 use lib.Dec.{eqb, ltb}
 use lib.ListN.{length, take, drop, take-append-drop}
 use borrow.Author.Tests.{eqb-true, eqb-false, eq-eqb, ne_eqb, ltb-true, lt-ltb, le-ltb}
-use Rattle.rules.specs.Lists.{range, any, filter, count, member, ascending, neighbours, if◌then◌else◌}
+use Rattle.rules.specs.Lists.{range, any, filter, count, member, ascending, neighbours, pick◌then◌else◌}
 use Rattle.rules.proofs.ListLaws.{test-cases, clash, and_left, and_right, and_intro, or_cases, or_left, or_right, filter-yes, filter-no, count-append, count_yes, count_no, range-add, member-append, Each, each_none, each_more, each_weaken, each-any, ascending-first, ascending-tail, if-true, if-false}
 
 -- ---- tests
@@ -430,7 +430,7 @@ module _ {A : Type 0} (f : A → Bool) where
   count-nil = refl
 
   -- the first element and the others, counted
-  pub count-cons : (x : A) (xs : List A) → count f (x ∷ xs) ≡ (if f x then 1 else 0) + count f xs
+  pub count-cons : (x : A) (xs : List A) → count f (x ∷ xs) ≡ (pick f x then 1 else 0) + count f xs
   count-cons x xs =
-      test-cases (count f (x ∷ xs) ≡ (if f x then 1 else 0) + count f xs) (f x)
+      test-cases (count f (x ∷ xs) ≡ (pick f x then 1 else 0) + count f xs) (f x)
       (λ e. rw (count_yes f x xs e, if-true {A = ℕ} (f x) 1 0 e) (omega arith)) (λ e. rw (count_no f x xs e, if-false {A = ℕ} (f x) 1 0 e) (omega arith))

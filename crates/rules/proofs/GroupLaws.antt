@@ -11,7 +11,7 @@ use lib.Dec.{eqb}
 use lib.ListN.{length, drop, get_or, length-append, length-drop, length-map, take-append-drop}
 use lib.Seq.{ext_get_or, take_all, drop_at}
 use borrow.Author.Tests.{eqb-true, eq-eqb}
-use Rattle.rules.specs.Lists.{if◌then◌else◌, maybe, given, range, all}
+use Rattle.rules.specs.Lists.{pick◌then◌else◌, maybe, given, range, all}
 use Rattle.rules.specs.Sizes.{group_units}
 use Rattle.rules.specs.Bytes.{pieces, Bytes, be, le, le_digits, part, bit_set, bit_bytes}
 use Rattle.rules.specs.Group.{Group, group_bytes, group_key, presence, slot_bytes, encode_group, slot_values, presence_bits, decode_group, group_fixed, absent_zero}
@@ -27,7 +27,7 @@ slot_value slot = maybe 0 (λ crc. crc) slot
 
 -- the slot of a presence bit and a value
 abbrev slot_of : Bool → ℕ → Option ℕ
-slot_of present crc = if present then some crc else none
+slot_of present crc = pick present then some crc else none
 
 -- every field of the group is in its range
 pub record GroupFits (g : Group) : Type 0 where
@@ -55,7 +55,7 @@ value-slot_bytes (each_more {x = x} h r) = rw (le-le_digits-fits 4 (slot_value x
 
 -- slots come back from their bits and values
 slots-back : (slots : List (Option ℕ)) → zip_with slot_of (map given slots) (map slot_value slots) ≡ slots
-unfolding zip_with given maybe if◌then◌else◌
+unfolding zip_with given maybe pick◌then◌else◌
 slots-back [] = refl
 slots-back (none ∷ slots) = ap (λ (t : List (Option ℕ)). none ∷ t) (slots-back slots)
 slots-back (some crc ∷ slots) = ap (λ (t : List (Option ℕ)). some crc ∷ t) (slots-back slots)
@@ -73,7 +73,7 @@ word_lt p w c = rw w at (le-lt p c)
 
 -- a slot with a value in range has its value in range
 slot_lt : (present : Bool) (crc : ℕ) → crc < 2 ^ 32 → slot_value (slot_of present crc) < 2 ^ 32
-unfolding maybe if◌then◌else◌
+unfolding maybe pick◌then◌else◌
 slot_lt true crc h = h
 slot_lt false crc h = omega arith
 
@@ -86,13 +86,13 @@ slots-lt (b ∷ bits) (each_more {x = crc} h r) = each_more (slot_lt b crc h) (s
 
 -- a slot is present where its bit is
 given-slot_of : (present : Bool) (crc : ℕ) → given (slot_of present crc) ≡ present
-unfolding given if◌then◌else◌
+unfolding given pick◌then◌else◌
 given-slot_of true crc = refl
 given-slot_of false crc = refl
 
 -- a value that is zero where it is not present is written as it is
 slot_bytes-of : (present : Bool) (crc : ℕ) → (present || eqb crc 0) ≡ true → slot_bytes (slot_of present crc) ≡ le_digits 4 crc
-unfolding slot_bytes maybe if◌then◌else◌
+unfolding slot_bytes maybe pick◌then◌else◌
 slot_bytes-of true crc h = refl
 slot_bytes-of false crc h = rw (eqb-true crc 0 h) refl
 

@@ -11,7 +11,7 @@ use native.Mathlib.Omega.{arith}
 use lib.Dec.{leb}
 use borrow.Author.Tests.{leb-true, not-true}
 use lib.ListN.{length, get_or, replicate, length-map, length-replicate, get_or-eq_default}
-use Rattle.rules.specs.Lists.{if◌then◌else◌, given, range, count}
+use Rattle.rules.specs.Lists.{pick◌then◌else◌, given, range, count}
 use Rattle.rules.specs.Sizes.{block_bytes, unit_bytes}
 use Rattle.rules.specs.Units.{Change, valid_length, written_in}
 use Rattle.rules.specs.Kept.{intact, continues, blocks_after, candidates, runs, within_limit, retained_blocks, wanted, assigned, superseded}
@@ -112,7 +112,7 @@ pub record KeptFor (c : Change) (unit : ℕ) (verified : Bool) (before : List (O
 module _ (limit : ℕ) (c : Change) (unit : ℕ) (verified : Bool) (old : List (Option ℕ)) where
   -- one entry of the candidates
   candidate : ℕ → Option ℕ
-  candidate i = if verified && intact c unit i then get_or old i none else none
+  candidate i = pick verified && intact c unit i then get_or old i none else none
 
   -- a candidate has these reasons
   candidate-for : (i p : ℕ) → candidate i ≡ some p → KeptFor c unit verified old i p
@@ -157,7 +157,7 @@ module _ (limit : ℕ) (c : Change) (unit : ℕ) (verified : Bool) (old : List (
 
 -- blocks of which none is kept are one run, or none
 runs_none : (n : ℕ) → runs (replicate n none) ≤ 1
-unfolding runs continues if◌then◌else◌
+unfolding runs continues pick◌then◌else◌
 runs_none zero = omega arith
 runs_none (suc zero) = omega arith
 runs_none (suc (suc n)) = omega (arith, runs_none (suc n))

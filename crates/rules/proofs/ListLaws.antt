@@ -11,7 +11,7 @@ use lib.Dec.{eqb, ltb}
 use lib.ListN.{length, take, drop, get_or, length-append, replicate}
 use lib.Arith.{lt_of_le-ne}
 use borrow.Author.Tests.{eqb-true, eqb-false, eq-eqb, ltb-true, ltb-false, lt-ltb}
-use Rattle.rules.specs.Lists.{if◌then◌else◌, maybe, given, range, all, any, filter, count, find, member, ascending, insert, pair_before, neighbours}
+use Rattle.rules.specs.Lists.{pick◌then◌else◌, maybe, given, range, all, any, filter, count, find, member, ascending, insert, pair_before, neighbours}
 
 -- ---- choices
 
@@ -32,18 +32,18 @@ order-cases P a b f g h =
 
 module _ {A : Type 0} where
   -- the choice where the test passes
-  pub if-true : (b : Bool) (x y : A) → b ≡ true → (if b then x else y) ≡ x
-  unfolding if◌then◌else◌
+  pub if-true : (b : Bool) (x y : A) → b ≡ true → (pick b then x else y) ≡ x
+  unfolding pick◌then◌else◌
   if-true b x y e = rw e refl
 
   -- the choice where it fails
-  pub if-false : (b : Bool) (x y : A) → b ≡ false → (if b then x else y) ≡ y
-  unfolding if◌then◌else◌
+  pub if-false : (b : Bool) (x y : A) → b ≡ false → (pick b then x else y) ≡ y
+  unfolding pick◌then◌else◌
   if-false b x y e = rw e refl
 
   -- what holds of both choices, each under its test, holds of the choice
-  pub if-cases : (P : A → Type 0) (b : Bool) (x y : A) → (b ≡ true → P x) → (b ≡ false → P y) → P (if b then x else y)
-  unfolding if◌then◌else◌
+  pub if-cases : (P : A → Type 0) (b : Bool) (x y : A) → (b ≡ true → P x) → (b ≡ false → P y) → P (pick b then x else y)
+  unfolding pick◌then◌else◌
   if-cases P true x y f g = f refl
   if-cases P false x y f g = g refl
 
@@ -54,8 +54,8 @@ module _ {A : Type 0} where
   given-some (some x) e = (x, refl)
 
 -- a function goes into both choices
-pub if-ap : {A B : Type 0} (f : A → B) (b : Bool) (x y : A) → f (if b then x else y) ≡ (if b then f x else f y)
-unfolding if◌then◌else◌
+pub if-ap : {A B : Type 0} (f : A → B) (b : Bool) (x y : A) → f (pick b then x else y) ≡ (pick b then f x else f y)
+unfolding pick◌then◌else◌
 if-ap f true x y = refl
 if-ap f false x y = refl
 

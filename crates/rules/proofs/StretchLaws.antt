@@ -10,7 +10,7 @@ use native.Mathlib.Omega.{arith}
 use lib.Dec.{eqb, ltb, leb}
 use lib.ListN.{length, length-append}
 use borrow.Author.Tests.{eqb-true, eqb-false, eq-eqb, ne_eqb, ltb-true, ltb-false, lt-ltb, leb-true, leb-false, le-leb}
-use Rattle.rules.specs.Lists.{if◌then◌else◌, range, all, any, filter, count, member, neighbours, ascending}
+use Rattle.rules.specs.Lists.{pick◌then◌else◌, range, all, any, filter, count, member, neighbours, ascending}
 use Rattle.rules.specs.Bytes.{le_digits}
 use Rattle.rules.specs.Card.{Card}
 use Rattle.rules.specs.Book.{decode_book}
@@ -112,7 +112,7 @@ module _ (f : ℕ → Bool) where
 
 -- a number for a test
 abbrev one-if : Bool → ℕ
-one-if b = if b then 1 else 0
+one-if b = pick b then 1 else 0
 
 module _ (u : ℕ) (r : Stretch) where
   lies-of : r.first ≤ u → u < r.first + r.units → lies_in u r ≡ true
@@ -132,7 +132,7 @@ module _ (u : ℕ) (r : Stretch) where
 
 -- a stretch that starts one unit earlier has that unit more
 lies_more : (u a k : ℕ) → one-if (lies_in u (stretch a (suc k))) ≡ one-if (eqb u a) + one-if (lies_in u (stretch (suc a) k))
-unfolding if◌then◌else◌
+unfolding pick◌then◌else◌
 lies_more u a k = test-cases P (eqb u a) here there
   where
     P : Type 0

@@ -3,7 +3,7 @@
 use mathlib.Core.List.{List, ◌++◌, map, flat_map, get_last?}
 use Rattle.std.specs.Prelude.{Bool, not, ◌&&◌, ℕ, suc, ◌+◌, ◌-◌, ◌*◌, ◌/◌, ◌%◌, min, eqb, ltb, length, take}
 use Rattle.std.proofs.Math.Option.{Option}
-use Rattle.rules.specs.Lists.{if◌then◌else◌, maybe, range, all, filter, find, first_given, member, begun}
+use Rattle.rules.specs.Lists.{pick◌then◌else◌, maybe, range, all, filter, find, first_given, member, begun}
 use Rattle.rules.specs.Sizes.{group_blocks}
 
 -- the allocation groups of a store
@@ -30,7 +30,7 @@ module _ (blocks : ℕ) (taken : List ℕ) (group : ℕ) where
 
   -- the block after it; "its start if none, or if that was its last"
   unfoldable pub cursor : ℕ
-  cursor = maybe (group_start group) (λ b. if eqb (suc b) (group_end blocks group) then group_start group else suc b) highest
+  cursor = maybe (group_start group) (λ b. pick eqb (suc b) (group_end blocks group) then group_start group else suc b) highest
 
   -- "in each, from after the highest block taken by this call in that group [..], then around"
   unfoldable pub searched : List ℕ

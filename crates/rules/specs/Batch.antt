@@ -1,7 +1,7 @@
 -- Document 02, W-204: a batch of writes.
 -- Assumes nothing.
 use Rattle.std.specs.Prelude.{List, [], ◌∷◌, ◌++◌, Bool, not, ◌||◌, ℕ, suc, eqb, ltb, length, take, drop}
-use Rattle.rules.specs.Lists.{if◌then◌else◌, any}
+use Rattle.rules.specs.Lists.{pick◌then◌else◌, any}
 use Rattle.rules.specs.Sizes.{most_transfer, most_runs}
 use Rattle.rules.specs.Time.{Time}
 use Rattle.rules.specs.Store.{Store}
@@ -44,7 +44,7 @@ batch_from (t ∷ ts) bytes time done s =
 -- the first case that holds gives its number with count 0 and leaves the store as lent
 unfoldable pub unless : List Case → Store → Result → Result
 unless [] s next = next
-unless (c ∷ cs) s next = if c.holds then batch_gives (number_of c.refusal) 0 s else unless cs s next
+unless (c ∷ cs) s next = pick c.holds then batch_gives (number_of c.refusal) 0 s else unless cs s next
 
 -- what a batch gives. It is neither refused nor accepted where it stops after some writes, so it has no `Outcome`
 unfoldable pub write_batch : List ℕ → List ℕ → Time → Store → Result

@@ -1,7 +1,7 @@
 -- Numbers in bytes: both byte orders, fields packed most significant bit first, single bits, and parts of a buffer.
 -- Assumes nothing.
 use Rattle.std.specs.Prelude.{List, [], ◌∷◌, ◌++◌, Bool, ℕ, zero, suc, ◌+◌, ◌*◌, ◌/◌, ◌%◌, ◌^◌, ◌-◌, ◌<◌, eqb, length, take, drop, get_or, replicate}
-use Rattle.rules.specs.Lists.{if◌then◌else◌, all}
+use Rattle.rules.specs.Lists.{pick◌then◌else◌, all}
 
 -- each element is a byte
 abbrev pub Bytes : List ℕ → Type 0
@@ -71,7 +71,7 @@ bit_set s n = eqb (get_or s (n / 8) 0 / 2 ^ (n % 8) % 2) 1
 -- the number of n bits whose bit i, from the low end, is set where f (k + i) holds
 unfoldable pub byte_of : ℕ → (ℕ → Bool) → ℕ → ℕ
 byte_of zero f k = 0
-byte_of (suc n) f k = (if f k then 1 else 0) + 2 * byte_of n f (suc k)
+byte_of (suc n) f k = (pick f k then 1 else 0) + 2 * byte_of n f (suc k)
 
 -- n bytes: bit i of them, as `bit_set` counts, is set where f (k + i) holds
 unfoldable pub bit_bytes : ℕ → (ℕ → Bool) → ℕ → List ℕ

@@ -3,7 +3,7 @@
 use Rattle.std.specs.Prelude.{◌≡◌, true, false, ℕ, ◌+◌, ◌*◌, ◌≤◌, ◌<◌, eqb, ltb, length, drop}
 use mathlib.Core.List.{List, [], ◌∷◌, ◌++◌, map, flat_map, Memᴰ}
 use Rattle.std.proofs.Math.Option.{some}
-use Rattle.rules.specs.Lists.{if◌then◌else◌, range, any, count, member}
+use Rattle.rules.specs.Lists.{pick◌then◌else◌, range, any, count, member}
 use Rattle.rules.specs.Sizes.{unit_bytes}
 use Rattle.rules.specs.Bytes.{part, all_zero}
 use Rattle.rules.specs.Card.{Card}
@@ -52,7 +52,7 @@ act_reserved (batch list bytes time) n = n
 -- "the number given to the last accepted fresh", n before these calls
 unfoldable pub last_reserved : List Fed → ℕ → ℕ
 last_reserved [] n = n
-last_reserved (f ∷ fs) n = last_reserved fs (if f.refused then n else act_reserved f.act n)
+last_reserved (f ∷ fs) n = last_reserved fs (pick f.refused then n else act_reserved f.act n)
 
 -- every act of the list is in range
 pub data AllInRange : List Act → Type 0 where
@@ -78,9 +78,9 @@ places v = flat_map places_of v.books.extents
 -- a block's holders: being reserved, free, retired, and each place of each file that holds it, counted together
 unfoldable pub holders : ℕ → Volume → ℕ → ℕ
 holders reserved v b =
-    (if ltb b reserved then 1 else 0)
-    + (if v.used b then 0 else 1)
-    + (if v.retired b then 1 else 0)
+    (pick ltb b reserved then 1 else 0)
+    + (pick v.used b then 0 else 1)
+    + (pick v.retired b then 1 else 0)
     + count (λ p. eqb p.block b) (places v)
 
 -- the places of an object's file

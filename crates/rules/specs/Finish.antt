@@ -3,7 +3,7 @@
 use mathlib.Core.List.{List, [], ◌∷◌, ◌++◌, map, flat_map}
 use Rattle.std.specs.Prelude.{Bool, not, ◌&&◌, ◌||◌, ℕ, suc, ◌+◌, ◌-◌, ◌*◌, ◌/◌, ◌%◌, min, max, eqb, ltb}
 use Rattle.std.proofs.Math.Option.{Option, none, some}
-use Rattle.rules.specs.Lists.{if◌then◌else◌, any, filter, insert, member}
+use Rattle.rules.specs.Lists.{pick◌then◌else◌, any, filter, insert, member}
 use Rattle.rules.specs.Sizes.{block_bytes, unit_blocks, group_units}
 use Rattle.rules.specs.Bytes.{part, patch, padded}
 use Rattle.rules.specs.Time.{Time}
@@ -27,21 +27,21 @@ from e block =
 
 -- what an extent has before a block of its file: nothing, a part of it, or all
 unfoldable pub part_before : Extent → ℕ → List Extent
-part_before e block = if ltb e.logical block then up_to e (min (extent_end e) block) ∷ [] else []
+part_before e block = pick ltb e.logical block then up_to e (min (extent_end e) block) ∷ [] else []
 
 -- what it has from a block of its file on
 unfoldable pub part_from : Extent → ℕ → List Extent
-part_from e block = if ltb block (extent_end e) then from e (max e.logical block) ∷ [] else []
+part_from e block = pick ltb block (extent_end e) then from e (max e.logical block) ∷ [] else []
 
 -- "a rewritten unit's blocks leave the old extents, whose other parts stay"
 unfoldable pub cut_unit : ℕ → ℕ → List Extent → List Extent
 cut_unit object unit es =
-    flat_map (λ e. if eqb e.object object then part_before e (unit * unit_blocks) ++ part_from e (suc unit * unit_blocks) else e ∷ []) es
+    flat_map (λ e. pick eqb e.object object then part_before e (unit * unit_blocks) ++ part_from e (suc unit * unit_blocks) else e ∷ []) es
 
 -- an extent before others: one with the first of them where they join
 unfoldable pub meet : Extent → List Extent → List Extent
 meet e [] = e ∷ []
-meet e (f ∷ fs) = if joins e f then joined e f ∷ fs else e ∷ f ∷ fs
+meet e (f ∷ fs) = pick joins e f then joined e f ∷ fs else e ∷ f ∷ fs
 
 -- a rewritten unit's blocks, each as an extent of its own, before runs that follow them
 unfoldable pub start_runs : ℕ → ℕ → List ℕ → List Extent → List Extent
@@ -86,12 +86,12 @@ is_group object number g = eqb g.object object && eqb g.number number
 
 -- "in a group added if missing"
 unfoldable pub with_group : ℕ → ℕ → List Group → List Group
-with_group object number gs = if any (is_group object number) gs then gs else insert group_before (empty_group object number) gs
+with_group object number gs = pick any (is_group object number) gs then gs else insert group_before (empty_group object number) gs
 
 -- "The unit's slot gets its checksum"
 unfoldable pub set_slot : ℕ → ℕ → ℕ → List Group → List Group
 set_slot object unit crc gs =
-    map (λ g. if is_group object (unit / group_units) g then set_checksum_slot g (unit % group_units) (some crc) else g)
+    map (λ g. pick is_group object (unit / group_units) g then set_checksum_slot g (unit % group_units) (some crc) else g)
     (with_group object (unit / group_units) gs)
 
 -- the finished groups
@@ -109,7 +109,7 @@ changed_card size allocated time d =
 -- the finished cards
 unfoldable pub finished_cards : Change → ℕ → Time → List Card → List Card
 finished_cards c allocated time cs =
-    map (λ d. if eqb d.object c.object then changed_card c.new_size allocated time d else d) cs
+    map (λ d. pick eqb d.object c.object then changed_card c.new_size allocated time d else d) cs
 
 -- ---- the maps and the image
 

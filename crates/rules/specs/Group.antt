@@ -3,7 +3,7 @@
 use mathlib.Core.List.{List, [], ◌∷◌, ◌++◌, map, flat_map, zip_with}
 use Rattle.std.specs.Prelude.{Bool, ◌||◌, ℕ, suc, eqb, take, drop, get_or, set, replicate}
 use Rattle.std.proofs.Math.Option.{Option, none, some}
-use Rattle.rules.specs.Lists.{if◌then◌else◌, maybe, given, range, all, pair_before}
+use Rattle.rules.specs.Lists.{pick◌then◌else◌, maybe, given, range, all, pair_before}
 use Rattle.rules.specs.Sizes.{group_units}
 use Rattle.rules.specs.Bytes.{be, le, be_digits, le_digits, part, pieces, bit_set, bit_bytes}
 
@@ -46,7 +46,7 @@ unfoldable pub decode_group : List ℕ → Group
 decode_group bytes = record {
   object = be (part 0 8 bytes);
   number = be (part 9 8 bytes);
-  slots = zip_with (λ present crc. if present then some crc else none) (presence_bits bytes) (slot_values bytes);
+  slots = zip_with (λ present crc. pick present then some crc else none) (presence_bits bytes) (slot_values bytes);
 }
 
 -- the fixed byte: the 4 of the key
@@ -76,7 +76,7 @@ set_checksum_slot g n crc = record { object = g.object; number = g.number; slots
 -- how many slots there are up to the last present one
 unfoldable pub up_to_present : List (Option ℕ) → ℕ
 up_to_present [] = 0
-up_to_present (s ∷ ss) = if eqb (up_to_present ss) 0 then (if given s then 1 else 0) else suc (up_to_present ss)
+up_to_present (s ∷ ss) = pick eqb (up_to_present ss) 0 then (pick given s then 1 else 0) else suc (up_to_present ss)
 
 -- "`compact_group` keeps the slots up to the last present one": a group's value, shortened
 unfoldable pub compact_group : Group → List ℕ

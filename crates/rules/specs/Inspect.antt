@@ -3,7 +3,7 @@
 use mathlib.Core.List.{List, [], map, flat_map, get_last?}
 use Rattle.std.specs.Prelude.{Bool, false, not, ◌&&◌, ℕ, ◌+◌, ◌-◌, ◌*◌, ◌/◌, ◌%◌, eqb, ltb, leb, take, drop}
 use Rattle.std.proofs.Math.Option.{Option, none}
-use Rattle.rules.specs.Lists.{if◌then◌else◌, maybe, given, range, all, filter, find, begun}
+use Rattle.rules.specs.Lists.{pick◌then◌else◌, maybe, given, range, all, filter, find, begun}
 use Rattle.rules.specs.Sizes.{block_bytes, unit_blocks, group_units}
 use Rattle.rules.specs.Bytes.{all_zero}
 use Rattle.rules.specs.Extent.{Extent, extent_end, mapping}
@@ -71,11 +71,11 @@ module _ (v : Volume) (object : ℕ) where
     -- refusals 10 to 12 in their order, for a unit with a slot
     unfoldable pub inspect_slot : ℕ → Inspected
     inspect_slot crc =
-        if not fully_backed then damaged not_backed
-        else if not zero_past_end then damaged nonzero_past_end
-        else if not (checksum_right crc) then damaged checksum_differs
+        pick not fully_backed then damaged not_backed
+        else pick not zero_past_end then damaged nonzero_past_end
+        else pick not (checksum_right crc) then damaged checksum_differs
         else checked valid_bytes
 
     -- `inspect_unit`: the unit, read. One with no slot is a hole, after refusal 9
     unfoldable pub inspect_unit : Inspected
-    inspect_unit = maybe (if backed_under unit then damaged no_checksum else hole) inspect_slot (checksum_of unit)
+    inspect_unit = maybe (pick backed_under unit then damaged no_checksum else hole) inspect_slot (checksum_of unit)

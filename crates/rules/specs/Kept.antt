@@ -4,7 +4,7 @@
 -- Assumes nothing.
 use Rattle.std.specs.Prelude.{List, [], ◌∷◌, map, Bool, true, false, not, ◌&&◌, ℕ, suc, ◌+◌, ◌*◌, min, eqb, leb, length, get_or, replicate}
 use Rattle.std.proofs.Math.Option.{Option, none, some}
-use Rattle.rules.specs.Lists.{if◌then◌else◌, given, range, count, begun}
+use Rattle.rules.specs.Lists.{pick◌then◌else◌, given, range, count, begun}
 use Rattle.rules.specs.Sizes.{block_bytes, unit_bytes}
 use Rattle.rules.specs.Units.{Change, valid_length, written_in}
 
@@ -21,7 +21,7 @@ blocks_after c unit = begun (valid_length c.new_size unit) block_bytes
 -- "A block is kept if the old unit was checked, it is mapped, it lies wholly inside both old and new valid length, and no written byte falls in it."
 unfoldable pub candidates : Change → ℕ → Bool → List (Option ℕ) → List (Option ℕ)
 candidates c unit verified old =
-    map (λ i. if verified && intact c unit i then get_or old i none else none) (range 0 (blocks_after c unit))
+    map (λ i. pick verified && intact c unit i then get_or old i none else none) (range 0 (blocks_after c unit))
 
 -- "Kept neighbours with adjoining physical blocks continue a run, and so do two not kept; every other pair breaks it."
 unfoldable pub continues : Option ℕ → Option ℕ → Bool
@@ -34,11 +34,11 @@ continues (some p) (some q) = eqb q (suc p)
 unfoldable pub runs : List (Option ℕ) → ℕ
 runs [] = 0
 runs (b ∷ []) = 1
-runs (a ∷ b ∷ bs) = (if continues a b then 0 else 1) + runs (b ∷ bs)
+runs (a ∷ b ∷ bs) = (pick continues a b then 0 else 1) + runs (b ∷ bs)
 
 -- "If the unit's blocks then form over four runs, none is kept." The limit of runs is a parameter
 unfoldable pub within_limit : ℕ → List (Option ℕ) → List (Option ℕ)
-within_limit limit kept = if leb (runs kept) limit then kept else replicate (length kept) none
+within_limit limit kept = pick leb (runs kept) limit then kept else replicate (length kept) none
 
 -- `retained_blocks`: what is kept of a unit whose old blocks lie at these places
 unfoldable pub retained_blocks : ℕ → Change → ℕ → Bool → List (Option ℕ) → List (Option ℕ)

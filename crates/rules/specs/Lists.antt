@@ -4,11 +4,11 @@ use mathlib.Core.List.{List, [], ◌∷◌, head?}
 use Rattle.std.specs.Prelude.{Bool, true, false, ◌&&◌, ◌||◌, ℕ, zero, suc, ◌+◌, ◌/◌, ◌-◌, eqb, ltb, length}
 use Rattle.std.proofs.Math.Option.{Option, none, some}
 
-infixr 10 if◌then◌else◌
+infixr 10 pick◌then◌else◌
 -- the one or the other, by a test
-unfoldable pub if◌then◌else◌ : {A : Type 0} → Bool → A → A → A
-if true then x else y = x
-if false then x else y = y
+unfoldable pub pick◌then◌else◌ : {A : Type 0} → Bool → A → A → A
+pick true then x else y = x
+pick false then x else y = y
 
 -- what stands there, put through f, or d where nothing does
 unfoldable pub maybe : {A B : Type 0} → B → (A → B) → Option A → B
@@ -38,7 +38,7 @@ any f (x ∷ xs) = f x || any f xs
 -- the elements that pass the test, in their order
 unfoldable pub filter : {A : Type 0} → (A → Bool) → List A → List A
 filter f [] = []
-filter f (x ∷ xs) = if f x then x ∷ filter f xs else filter f xs
+filter f (x ∷ xs) = pick f x then x ∷ filter f xs else filter f xs
 
 -- how many elements pass the test
 unfoldable pub count : {A : Type 0} → (A → Bool) → List A → ℕ
@@ -71,7 +71,7 @@ ascending before xs = neighbours before xs
 -- x put in at its place: after the elements that stand before it
 unfoldable pub insert : {A : Type 0} → (A → A → Bool) → A → List A → List A
 insert before x [] = x ∷ []
-insert before x (y ∷ ys) = if before y x then y ∷ insert before x ys else x ∷ y ∷ ys
+insert before x (y ∷ ys) = pick before y x then y ∷ insert before x ys else x ∷ y ∷ ys
 
 -- the number of parts of a size that n things begin: n over the size, rounded up
 abbrev pub begun : ℕ → ℕ → ℕ

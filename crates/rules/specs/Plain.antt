@@ -2,7 +2,7 @@
 -- Assumes nothing.
 use Rattle.std.specs.Prelude.{List, [], ◌∷◌, ◌++◌, map, Bool, ℕ, zero, suc, min, eqb, length, take, drop}
 use Rattle.std.proofs.Math.Option.{Option, none, some}
-use Rattle.rules.specs.Lists.{if◌then◌else◌, maybe, find}
+use Rattle.rules.specs.Lists.{pick◌then◌else◌, maybe, find}
 use Rattle.rules.specs.Sizes.{most_transfer}
 use Rattle.rules.specs.Bytes.{patch, padded}
 use Rattle.rules.specs.Time.{Time}
@@ -28,7 +28,7 @@ pub record File : Type 0 where
 
 -- the file of this object with its bytes put through f, the others as they are
 unfoldable pub change : ℕ → (List ℕ → List ℕ) → List File → List File
-change object f files = map (λ a. if eqb a.object object then record { object = a.object; created = a.created; bytes = f a.bytes } else a) files
+change object f files = map (λ a. pick eqb a.object object then record { object = a.object; created = a.created; bytes = f a.bytes } else a) files
 
 -- "stand from the offset on, over what was there, with zeros filled in before them if the offset is past the end"
 unfoldable pub overwrite : ℕ → List ℕ → List ℕ → List ℕ
@@ -36,7 +36,7 @@ overwrite offset new old = patch (padded offset old) offset new
 
 -- write's step: "empty, no change; else the first 1,048,576 bytes at most [..]"
 unfoldable pub write_step : ℕ → ℕ → List ℕ → List File → List File
-write_step object offset bytes files = if eqb (length bytes) 0 then files else change object (overwrite offset (take most_transfer bytes)) files
+write_step object offset bytes files = pick eqb (length bytes) 0 then files else change object (overwrite offset (take most_transfer bytes)) files
 
 -- the step of an accepted call.
 -- "Fresh: none again. Enter: its object, no bytes. [..] Grow: zeros up to the new size. Read, settle, fill [..]: no change."; so many reads in one call,
@@ -64,7 +64,7 @@ act_step (batch list bytes time) done files = plain_writes (decode_triples list)
 
 -- "refused calls: no change"
 unfoldable pub step : Fed → List File → List File
-step f files = if f.refused then files else act_step f.act f.done files
+step f files = pick f.refused then files else act_step f.act f.done files
 
 -- the plain arrays after what was fed
 unfoldable pub plain : List Fed → List File → List File

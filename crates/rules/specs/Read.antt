@@ -1,7 +1,7 @@
 -- The call read.
 -- Assumes nothing.
 use Rattle.std.specs.Prelude.{List, [], ◌∷◌, ◌++◌, ℕ, ◌+◌, ◌-◌, ◌%◌, min, eqb, length, drop, replicate}
-use Rattle.rules.specs.Lists.{if◌then◌else◌}
+use Rattle.rules.specs.Lists.{pick◌then◌else◌}
 use Rattle.rules.specs.Sizes.{unit_bytes, most_transfer}
 use Rattle.rules.specs.Bytes.{part}
 use Rattle.rules.specs.Card.{Card}
@@ -52,7 +52,7 @@ read_units offset n s out card =
 -- a read that gets no byte tries none of 9 to 12
 unfoldable pub read_file : ℕ → Store → List ℕ → Card → Outcome
 read_file offset s out card =
-    if eqb (read_length card.size offset (length out)) 0 then accept 0 s out
+    pick eqb (read_length card.size offset (length out)) 0 then accept 0 s out
     else read_units offset (read_length card.size offset (length out)) s out card
 
 -- refusals 1 to 3, then those of the units

@@ -2,7 +2,7 @@
 -- Assumes nothing.
 use mathlib.Core.List.{List, [], ◌∷◌, ◌++◌, map, flat_map}
 use Rattle.std.specs.Prelude.{Bool, ◌&&◌, ◌||◌, ℕ, ◌+◌, eqb, ltb, length, take, drop}
-use Rattle.rules.specs.Lists.{if◌then◌else◌, maybe, any}
+use Rattle.rules.specs.Lists.{pick◌then◌else◌, maybe, any}
 use Rattle.rules.specs.Store.{Store, Volume, decode, card_of}
 use Rattle.rules.specs.Refusal.{Outcome, ◌when◌, first_case}
 use Rattle.rules.specs.Refusal.Refusal.{bad_reads}
@@ -54,7 +54,7 @@ same_pair p q = eqb p.object q.object && eqb p.unit q.unit
 -- how many different pairs there are: each is counted where it stands last
 unfoldable pub different : List Pair → ℕ
 different [] = 0
-different (p ∷ ps) = (if any (same_pair p) ps then 0 else 1) + different ps
+different (p ∷ ps) = (pick any (same_pair p) ps then 0 else 1) + different ps
 
 -- "the number of different pairs of object and unit that the reads touch"
 unfoldable pub units_touched : Volume → List Triple → ℕ

@@ -1,7 +1,7 @@
 -- Document 01, "Refusals in checking order": its sixteen numbers and document 02's, what a call gives, and the rule of the first match.
 -- Assumes nothing.
 use Rattle.std.specs.Prelude.{List, [], ◌∷◌, Bool, ℕ}
-use Rattle.rules.specs.Lists.{if◌then◌else◌}
+use Rattle.rules.specs.Lists.{pick◌then◌else◌}
 use Rattle.rules.specs.Store.{Store}
 
 -- the cases in which a call is refused, in document 01's order; behind them those that document 02 adds
@@ -66,7 +66,7 @@ pub data Outcome : Type 0 where
 -- the tests in checking order: the first case that holds refuses the call, else it goes on
 unfoldable pub first_case : List Case → Outcome → Outcome
 first_case [] next = next
-first_case (c ∷ cs) next = if c.holds then refuse c.refusal else first_case cs next
+first_case (c ∷ cs) next = pick c.holds then refuse c.refusal else first_case cs next
 
 -- what a call gives: its number, its count, and every lent buffer at exit
 pub record Result : Type 0 where

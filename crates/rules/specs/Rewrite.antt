@@ -2,7 +2,7 @@
 -- Assumes nothing.
 use Rattle.std.specs.Prelude.{List, [], ◌∷◌, ◌++◌, Bool, true, false, ◌||◌, ℕ, ◌+◌, ◌-◌, ltb, length}
 use Rattle.std.proofs.Math.Option.{Option}
-use Rattle.rules.specs.Lists.{if◌then◌else◌}
+use Rattle.rules.specs.Lists.{pick◌then◌else◌}
 use Rattle.rules.specs.Sizes.{unit_blocks, most_allocated}
 use Rattle.rules.specs.Checksum.{unit_checksum}
 use Rattle.rules.specs.Store.{Volume}
@@ -47,7 +47,7 @@ is_count_off n r = ltb n (length r.superseded) || ltb most_allocated (allocated_
 
 -- refusal 14 for a unit that was laid out
 unfoldable pub counted : Progress → Rewritten → Step
-counted p r = if is_count_off p.allocated r then stopped count_disagrees else rewritten r
+counted p r = pick is_count_off p.allocated r then stopped count_disagrees else rewritten r
 
 -- a unit of a change to a file of a volume
 module _ (v : Volume) (c : Change) (unit : ℕ) where
@@ -66,7 +66,7 @@ module _ (v : Volume) (c : Change) (unit : ℕ) where
   -- refusal 13, then the blocks, where it keeps these
   unfoldable pub allocate_unit : Progress → List ℕ → List (Option ℕ) → Step
   allocate_unit p bytes kept =
-      if too_few v.blocks v.used p.taken (wanted kept) then stopped no_space
+      pick too_few v.blocks v.used p.taken (wanted kept) then stopped no_space
       else counted p (lay_out bytes kept (allocate_data v.blocks v.used p.hint p.taken (wanted kept)))
 
 -- the same, with a limit of runs, and what the units before it left
@@ -80,13 +80,13 @@ module _ (limit : ℕ) (v : Volume) (c : Change) (unit : ℕ) (p : Progress) whe
   -- where it was read
   unfoldable pub after_read : Inspected → Step
   after_read (damaged r) = stopped r
-  after_read hole = if touches c unit then rewrite_from false [] else untouched
+  after_read hole = pick touches c unit then rewrite_from false [] else untouched
   after_read (checked old) = rewrite_from true old
 
   -- `rewrite_unit`: "Its old bytes are read and checked if there are any and the write does not cover all of them."
   unfoldable pub rewrite_unit : Step
   rewrite_unit =
-      if reads_old c unit then after_read (inspect_unit v c.object c.old_size unit) else rewrite_from false []
+      pick reads_old c unit then after_read (inspect_unit v c.object c.old_size unit) else rewrite_from false []
 
 -- what the next unit finds
 unfoldable pub after : Progress → Rewritten → Progress

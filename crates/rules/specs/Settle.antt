@@ -1,7 +1,7 @@
 -- The calls settle and fill: document 01's settle, and fill as document 02 has it (W-202), over the blocks that are not reserved.
 -- Assumes nothing.
 use Rattle.std.specs.Prelude.{[], false, not, ◌&&◌, ℕ, ◌-◌, ◌*◌, ◌/◌, eqb, leb}
-use Rattle.rules.specs.Lists.{if◌then◌else◌, count, range}
+use Rattle.rules.specs.Lists.{pick◌then◌else◌, count, range}
 use Rattle.rules.specs.Store.{Store, Volume, decode, encode_into, with_maps}
 use Rattle.rules.specs.Refusal.{Outcome, first_case}
 use Rattle.rules.specs.Refusal.Outcome.{accept}
@@ -29,7 +29,7 @@ used_usable v = count (λ n. v.used n && leb v.reserved n) (range 0 v.blocks)
 
 -- document 01's "times 1,000, divided by [..], rounded down". W-202: "When every block is reserved the answer is 0."
 unfoldable pub per_mille : ℕ → ℕ → ℕ
-per_mille used usable = if eqb usable 0 then 0 else used * 1000 / usable
+per_mille used usable = pick eqb usable 0 then 0 else used * 1000 / usable
 
 -- refusals 1 and 2; the store stays
 unfoldable pub fill_outcome : Store → Outcome

@@ -4,7 +4,7 @@
 -- Assumes nothing.
 use Rattle.std.specs.Prelude.{◌≡◌, ◌⊎◌, List, [], ◌∷◌, false, ℕ, ◌≤◌, eqb}
 use Rattle.std.proofs.Math.Option.{Option, none, some}
-use Rattle.rules.specs.Lists.{if◌then◌else◌, maybe}
+use Rattle.rules.specs.Lists.{pick◌then◌else◌, maybe}
 use Rattle.rules.specs.Sizes.{unit_blocks, most_runs, archive_runs}
 use Rattle.rules.specs.Store.{Volume}
 use Rattle.rules.specs.Inspect.{unit_mapping}
@@ -17,7 +17,7 @@ unfoldable pub stayed : (before after : List (Option ℕ)) → List (Option ℕ)
 stayed [] after = []
 stayed (o ∷ before) [] = []
 stayed (o ∷ before) (none ∷ after) = stayed before after
-stayed (o ∷ before) (some p ∷ after) = (if maybe false (eqb p) o then some p else none) ∷ stayed before after
+stayed (o ∷ before) (some p ∷ after) = (pick maybe false (eqb p) o then some p else none) ∷ stayed before after
 
 -- where a unit's blocks are
 abbrev pub unit_places : Volume → ℕ → ℕ → List (Option ℕ)

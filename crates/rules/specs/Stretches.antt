@@ -2,7 +2,7 @@
 -- Assumes nothing.
 use Rattle.std.specs.Prelude.{◌≡◌, Bool, true, ◌&&◌, ◌||◌, ℕ, suc, ◌+◌, ◌*◌, ◌≤◌, ◌<◌, eqb, ltb, leb, length, drop}
 use mathlib.Core.List.{List, [], ◌∷◌, ◌++◌, flat_map}
-use Rattle.rules.specs.Lists.{if◌then◌else◌, given, range, all, filter, count, neighbours}
+use Rattle.rules.specs.Lists.{pick◌then◌else◌, given, range, all, filter, count, neighbours}
 use Rattle.rules.specs.Sizes.{unit_bytes}
 use Rattle.rules.specs.Bytes.{le, le_digits, part}
 use Rattle.rules.specs.Card.{Card}
@@ -27,7 +27,7 @@ holds_data v c unit = given (checksum_of v c.object unit) && ltb (unit * unit_by
 unfoldable pub extend : ℕ → List Stretch → List Stretch
 extend unit [] = record { first = unit; units = 1 } ∷ []
 extend unit (r ∷ rs) =
-    if eqb (suc unit) r.first then record { first = unit; units = suc r.units } ∷ rs
+    pick eqb (suc unit) r.first then record { first = unit; units = suc r.units } ∷ rs
     else record { first = unit; units = 1 } ∷ r ∷ rs
 
 -- "each maximal stretch of consecutive units", of units that ascend

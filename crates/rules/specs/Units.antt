@@ -1,7 +1,7 @@
 -- Document 01, "Rules of a call": a change to a file, and the units that it rewrites.
 -- Assumes nothing.
 use Rattle.std.specs.Prelude.{List, [], ◌∷◌, ◌++◌, Bool, not, ◌&&◌, ℕ, ◌+◌, ◌-◌, ◌*◌, ◌/◌, ◌%◌, min, max, eqb, ltb, leb, length, take}
-use Rattle.rules.specs.Lists.{if◌then◌else◌, range, filter, member, begun}
+use Rattle.rules.specs.Lists.{pick◌then◌else◌, range, filter, member, begun}
 use Rattle.rules.specs.Sizes.{unit_bytes, most_transfer}
 use Rattle.rules.specs.Bytes.{part, patch, padded}
 
@@ -37,7 +37,7 @@ grow_change object size new_size = record { object = object; old_size = size; ne
 
 -- the units in which the file's bytes lie from one place up to another, the latter not included; none where there is no byte between
 unfoldable pub units_of : ℕ → ℕ → List ℕ
-units_of from to = if ltb from to then range (from / unit_bytes) (begun to unit_bytes - from / unit_bytes) else []
+units_of from to = pick ltb from to then range (from / unit_bytes) (begun to unit_bytes - from / unit_bytes) else []
 
 -- the units in which written bytes lie
 unfoldable pub touched_units : Change → List ℕ
@@ -45,12 +45,12 @@ touched_units c = units_of c.offset (change_end c)
 
 -- the old tail unit, "if partial"
 unfoldable pub partial_tail : ℕ → List ℕ
-partial_tail size = if eqb (size % unit_bytes) 0 then [] else size / unit_bytes ∷ []
+partial_tail size = pick eqb (size % unit_bytes) 0 then [] else size / unit_bytes ∷ []
 
 -- "Units: those touched, and before them the old tail unit if the file grows, its size is not a multiple of 65,536 and that unit is not touched."
 unfoldable pub write_units : Change → List ℕ
 write_units c =
-    (if ltb c.old_size c.new_size then filter (λ u. not (member u (touched_units c))) (partial_tail c.old_size) else [])
+    (pick ltb c.old_size c.new_size then filter (λ u. not (member u (touched_units c))) (partial_tail c.old_size) else [])
     ++ touched_units c
 
 -- "Grow: [..] only the old tail unit, if partial, is rewritten."
@@ -92,6 +92,6 @@ touches c unit = written_in c (unit * unit_bytes) (unit * unit_bytes + unit_byte
 -- "the assembled unit": the old bytes (none where they were not read), zeros up to the new valid length, and over them the caller's part
 unfoldable pub assembled : Change → ℕ → List ℕ → List ℕ
 assembled c unit old =
-    if touches c unit
+    pick touches c unit
     then patch (padded (valid_length c.new_size unit) old) (written_from c unit - unit * unit_bytes) (written_part c unit)
     else padded (valid_length c.new_size unit) old

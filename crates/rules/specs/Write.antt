@@ -1,7 +1,7 @@
 -- The calls write and grow: "Both change their units by `rewrite_unit`."
 -- Assumes nothing.
 use Rattle.std.specs.Prelude.{List, [], ◌∷◌, Bool, ℕ, ◌+◌, eqb, ltb, length}
-use Rattle.rules.specs.Lists.{if◌then◌else◌}
+use Rattle.rules.specs.Lists.{pick◌then◌else◌}
 use Rattle.rules.specs.Sizes.{most_runs}
 use Rattle.rules.specs.Time.{Time}
 use Rattle.rules.specs.Card.{Card}
@@ -46,7 +46,7 @@ carried_out answer c time s (planned rs p) =
 -- 5: "A non-empty write would end, after clipping, past 9,223,372,036,854,775,807"; 7 for a non-empty write
 unfoldable pub write_file : ℕ → ℕ → List ℕ → Time → Store → Card → Outcome
 write_file limit offset bytes time s card =
-    if eqb (length bytes) 0 then accept 0 s []
+    pick eqb (length bytes) 0 then accept 0 s []
     else first_case ((past_limit when is_past_limit (offset + length (clipped bytes))) ∷ (bad_time when time_wrong time) ∷ [])
     (carried_out (length (clipped bytes)) (write_change card.object card.size offset bytes) time s
     (plan_of limit write_units (write_change card.object card.size offset bytes) card s))
@@ -61,7 +61,7 @@ write_outcome limit object offset bytes time s =
 unfoldable pub grow_file : ℕ → Time → Store → Card → Outcome
 grow_file size time s card =
     first_case ((past_limit when is_past_limit size) ∷ (below_size when is_below_size size card) ∷ [])
-    (if eqb size card.size then accept 0 s []
+    (pick eqb size card.size then accept 0 s []
     else first_case ((bad_time when time_wrong time) ∷ [])
     (carried_out 0 (grow_change card.object card.size size) time s
     (plan_of most_runs grow_units (grow_change card.object card.size size) card s)))

@@ -7,7 +7,7 @@ use native.Mathlib.Decide.{dec_lt}
 use borrow.Author.Tests.{eqb-false, not-true}
 use lib.Bits.{bit_and, bit_or, or_lt, and_lt}
 use lib.Pow.{mod-pow-add}
-use Rattle.rules.specs.Lists.{if◌then◌else◌, all, range}
+use Rattle.rules.specs.Lists.{pick◌then◌else◌, all, range}
 use Rattle.rules.specs.Bytes.{le, part, Bytes, bit_set}
 use Rattle.rules.proofs.ListLaws.{test-cases, clash, order-cases, and_left, and_right, and_intro, or_left, or_right, all-range-at, all-range-of}
 use Rattle.rules.proofs.CountLaws.{same_test}
@@ -234,14 +234,14 @@ pub word-full : (map : List ℕ) (n a e p w : ℕ) → 0 < n → Passed map n a 
 word-full map n a e p w o s l d z c f =
     let m : p ≤ e = s.most in
     passed_on map n a e p (p + 64) s (omega arith) (omega arith)
-    (λ b x y v. not-clear map b n b (ap (bit_set map) (omega arith) ∙ sym (word-bit map p w (b - p) d z c (omega arith)) ∙ ap (λ (y : ℕ). bit_of y (b - p)) f ∙ (unfold if◌then◌else◌ in bit-alike true (b - p) (omega arith))) (omega arith) (omega arith))
+    (λ b x y v. not-clear map b n b (ap (bit_set map) (omega arith) ∙ sym (word-bit map p w (b - p) d z c (omega arith)) ∙ ap (λ (y : ℕ). bit_of y (b - p)) f ∙ (unfold pick◌then◌else◌ in bit-alike true (b - p) (omega arith))) (omega arith) (omega arith))
 
 -- a word in which a run begins
 pub word-run : (map : List ℕ) (n a e p w m t : ℕ) → 0 < n → Passed map n a e p → 64 ≤ e - p → w ≡ le (part (p / 8) 8 map) → p % 8 ≡ 0 → Bytes map → w < 2 ^ 64
     → Starts w n m → (m ≡ 0 → ⊥) → m < 2 ^ 64 → First m true t → Lowest map n a e (p + t)
 word-run map n a e p w m t o s l d z c f g h i k =
     let u : p ≤ e = s.most in
-    let v : t < 64 = first_some m true 0 t (unfold if◌then◌else◌ in refl) h i k in
+    let v : t < 64 = first_some m true 0 t (unfold pick◌then◌else◌ in refl) h i k in
     let r : (t + n ≤ 64) × (all (clear map) (range (p + t) n) ≡ true) = start-yes map p w d z c f n m g t o (k.found v) in
     let x : t + n ≤ 64 = r.0 in
     lowest-here map n a e (p + t) o

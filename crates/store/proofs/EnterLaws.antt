@@ -9,7 +9,7 @@ use borrow.Author.Tests.{lt-ltb, le-ltb, le-leb, lt-leb}
 use lib.Dec.{leb}
 use lib.ListN.{length, take, drop}
 use lib.Seq.{take_all}
-use Rattle.rules.specs.Lists.{if◌then◌else◌, given, all, find, insert, ascending}
+use Rattle.rules.specs.Lists.{pick◌then◌else◌, given, all, find, insert, ascending}
 use Rattle.rules.specs.Sizes.{most_seconds, nanoseconds_bound}
 use Rattle.rules.specs.Bytes.{Bytes, patch, pieces}
 use Rattle.rules.specs.Time.{Time}
@@ -47,9 +47,9 @@ module _ (cs : List Card) (places object : ℕ) (time : Time) where
   number-7 g t = sym (if-false (given (find (card_is object) cs)) 4 _ g ∙ if-true (time_wrong time) 7 _ t)
 
   -- it has none, the time is right, and there is no place or some
-  number-8 : given (find (card_is object) cs) ≡ false → time_wrong time ≡ false → (b : Bool) → leb places (length cs) ≡ b → (if b then 8 else 0) ≡ enter_number cs places object time
+  number-8 : given (find (card_is object) cs) ≡ false → time_wrong time ≡ false → (b : Bool) → leb places (length cs) ≡ b → (pick b then 8 else 0) ≡ enter_number cs places object time
   unfolding enter_number
-  number-8 g t b e = sym (if-false (given (find (card_is object) cs)) 4 _ g ∙ if-false (time_wrong time) 7 _ t ∙ ap (λ (c : Bool). if c then 8 else 0) e)
+  number-8 g t b e = sym (if-false (given (find (card_is object) cs)) 4 _ g ∙ if-false (time_wrong time) 7 _ t ∙ ap (λ (c : Bool). pick c then 8 else 0) e)
 
 -- a card that was found
 found-given : (n object : ℕ) (s : List ℕ) (r : Found) (i : ℕ) → FoundFirst (card_is object) decode_card card_bytes n s r → r ≡ At i
@@ -75,14 +75,14 @@ module _ (n object : ℕ) (s : List ℕ) (time : Time) (f : Found) (h : FoundFir
 
     -- refusal 8
     pub enter-8 : (r : Bool) → r ≡ time_wrong time → r ≡ false → length s / card_bytes ≤ n → 8 ≡ enter_number (decode_book decode_card card_bytes n s) (book_places card_bytes s) object time
-    unfolding book_places if◌then◌else◌
+    unfolding book_places pick◌then◌else◌
     enter-8 r e t l =
         number-8 _ _ object time (nothing-given n object s f h q) (sym e ∙ t) true
         (le-leb (length s / card_bytes) (length (decode_book decode_card card_bytes n s)) (rw (length-decode_book decode_card card_bytes n s) l))
 
     -- none of them
     pub enter-0 : (r : Bool) → r ≡ time_wrong time → r ≡ false → n < length s / card_bytes → 0 ≡ enter_number (decode_book decode_card card_bytes n s) (book_places card_bytes s) object time
-    unfolding book_places if◌then◌else◌
+    unfolding book_places pick◌then◌else◌
     enter-0 r e t l =
         number-8 _ _ object time (nothing-given n object s f h q) (sym e ∙ t) false
         (lt-leb (length s / card_bytes) (length (decode_book decode_card card_bytes n s)) (rw (length-decode_book decode_card card_bytes n s) l))

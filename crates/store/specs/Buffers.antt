@@ -1,7 +1,7 @@
 -- What the inner calls make of single buffers.
 -- Assumes nothing.
 use Rattle.std.specs.Prelude.{◌≡◌, true, List, ℕ, suc, ◌+◌, ◌*◌, ◌^◌, ◌≤◌, ◌<◌, eqb, leb, length}
-use Rattle.rules.specs.Lists.{if◌then◌else◌, given, all, find, ascending}
+use Rattle.rules.specs.Lists.{pick◌then◌else◌, given, all, find, ascending}
 use Rattle.rules.specs.Bytes.{pieces}
 use Rattle.rules.specs.Time.{Time}
 use Rattle.rules.specs.Head.{Head, head_bytes, decode_head}
@@ -29,9 +29,9 @@ one_card_more h = record {
 -- the number of refusal 4, 7 or 8 for a new file among these cards, in a book of so many places; or 0
 unfoldable pub enter_number : List Card → ℕ → ℕ → Time → ℕ
 enter_number cs places object time =
-    if given (find (λ c. eqb c.object object) cs) then 4
-    else if time_wrong time then 7
-    else if leb places (length cs) then 8
+    pick given (find (λ c. eqb c.object object) cs) then 4
+    else pick time_wrong time then 7
+    else pick leb places (length cs) then 8
     else 0
 
 -- a book of n cards that keeps its rules

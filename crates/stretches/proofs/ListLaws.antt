@@ -11,7 +11,7 @@ use lib.Dec.{ltb}
 use lib.ListN.{length, take, drop, length-drop}
 use lib.Seq.{take_all, take-add, drop-drop, length-take-le}
 use borrow.Author.Tests.{lt-ltb, le-ltb}
-use Rattle.rules.specs.Lists.{if◌then◌else◌, filter, find, begun}
+use Rattle.rules.specs.Lists.{pick◌then◌else◌, filter, find, begun}
 use Rattle.rules.specs.Sizes.{unit_bytes}
 use Rattle.rules.specs.Bytes.{le_digits, part, patch}
 use Rattle.rules.specs.Head.{Head, decode_head}
@@ -43,7 +43,7 @@ pub none_left : (f : ℕ → Bool) (unit end : ℕ) → end ≤ unit → stretch
 none_left f unit end l = rw (range_none unit (end - unit) (omega (arith, l))) (unfold filter stretches in refl)
 
 -- what a step finds: none, or one and those behind it
-module _ (rs rest : List Stretch) (r : Stretch) (first end : ℕ) (e : rs ≡ (if ltb first end then r ∷ rest else [])) where
+module _ (rs rest : List Stretch) (r : Stretch) (first end : ℕ) (e : rs ≡ (pick ltb first end then r ∷ rest else [])) where
   pub found_none : end ≤ first → rs ≡ []
   found_none l = e ∙ if-false (ltb first end) (r ∷ rest) [] (le-ltb first end l)
 

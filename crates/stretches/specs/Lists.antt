@@ -2,7 +2,7 @@
 -- Assumes nothing.
 use Rattle.std.specs.Prelude.{◌≡◌, Bool, ◌&&◌, ℕ, ◌*◌, ◌≤◌, eqb, ltb, length, drop}
 use mathlib.Core.List.{List, ◌++◌, flat_map}
-use Rattle.rules.specs.Lists.{if◌then◌else◌, maybe, find, filter, range}
+use Rattle.rules.specs.Lists.{pick◌then◌else◌, maybe, find, filter, range}
 use Rattle.rules.specs.Sizes.{unit_bytes}
 use Rattle.rules.specs.Head.{head_bytes, decode_head}
 use Rattle.rules.specs.Card.{card_bytes, decode_card}
@@ -25,7 +25,7 @@ stretches_in gs object size first units = stretches (filter (holds gs object siz
 -- the list of these stretches, after refusal 19
 unfoldable pub lists_pairs : (first units : ℕ) → List ℕ → List Stretch → Gives
 lists_pairs first units out rs =
-    if range_wrong first units rs out then gives (number_of bad_range) 0 out
+    pick range_wrong first units rs out then gives (number_of bad_range) 0 out
     else gives 0 (length rs) (flat_map encode_stretch rs ++ drop (stretch_bytes * length rs) out)
 
 -- that of a file of this size

@@ -4,7 +4,7 @@ use mathlib.Core.Path.{◌≡◌, refl, ap, ◌∙◌}
 use mathlib.Core.Bool.{Bool, true, false}
 use mathlib.Core.List.{List, [], ◌∷◌}
 use Prim.Native.Nat.{ℕ}
-use Rattle.rules.specs.Lists.{if◌then◌else◌}
+use Rattle.rules.specs.Lists.{pick◌then◌else◌}
 use Rattle.rules.specs.Time.{Time}
 use Rattle.rules.specs.Store.{Store}
 use Rattle.rules.specs.Refusal.{Case, Outcome, Result, ◌when◌, number_of, first_case}
@@ -26,7 +26,7 @@ use Rattle.volume.specs.Call.{gave}
 unless-stopped : (l b : Bool) (cases : List Case) (s : Store) (next : Result) (n : ℕ)
     → n ≡ outcome_number (first_case ((wrong_length when l) ∷ (broken_rule when b) ∷ []) (accept 0 s [])) → (n ≡ 0 → ⊥)
     → gave n 0 s ≡ unless ((wrong_length when l) ∷ (broken_rule when b) ∷ cases) s next
-unfolding outcome_number first_case unless if◌then◌else◌ number_of
+unfolding outcome_number first_case unless pick◌then◌else◌ number_of
 unless-stopped true b cases s next n e z = ap (λ (k : ℕ). gave k 0 s) e
 unless-stopped false true cases s next n e z = ap (λ (k : ℕ). gave k 0 s) e
 unless-stopped false false cases s next n e z = absurd (z e)
@@ -45,4 +45,4 @@ module _ (list bytes : List ℕ) (time : Time) (s : Store) where
       goes : (l b : Bool) → l ≡ false → b ≡ false
           → unless ((bad_batch when batch_wrong list bytes) ∷ []) s (batch_from (decode_triples list) bytes time 0 s)
           ≡ unless ((wrong_length when l) ∷ (broken_rule when b) ∷ (bad_batch when batch_wrong list bytes) ∷ []) s (batch_from (decode_triples list) bytes time 0 s)
-      goes l b x y = unfold unless if◌then◌else◌ in rw (x, y) refl
+      goes l b x y = unfold unless pick◌then◌else◌ in rw (x, y) refl

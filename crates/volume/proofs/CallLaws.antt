@@ -8,7 +8,7 @@ use native.Mathlib.Omega.{arith}
 use lib.Dec.{ltb, eqb, leb}
 use borrow.Author.Tests.{eqb-true, leb-true, leb-false, not-false}
 use lib.ListN.{length, replicate}
-use Rattle.rules.specs.Lists.{if◌then◌else◌, given, range, count, find, insert, ascending}
+use Rattle.rules.specs.Lists.{pick◌then◌else◌, given, range, count, find, insert, ascending}
 use Rattle.rules.specs.Sizes.{block_bytes, most_blocks}
 use Rattle.rules.specs.Bytes.{bit_set}
 use Rattle.rules.specs.Time.{Time}
@@ -193,11 +193,11 @@ module _ (object : ℕ) (time : Time) (s : Store) where
         let w : Bool = time_wrong time in
         let l : Bool = leb (book_places card_bytes s.cards) (length (decode s).books.cards) in
         test-cases _ h
-        (λ t. rw (if-true h (refuse card_exists) (if w then refuse bad_time else if l then refuse no_card_place else next) t, if-true {A = ℕ} h 4 (if w then 7 else if l then 8 else 0) t) a)
-        (λ t. rw (if-false h (refuse card_exists) (if w then refuse bad_time else if l then refuse no_card_place else next) t, if-false {A = ℕ} h 4 (if w then 7 else if l then 8 else 0) t)
+        (λ t. rw (if-true h (refuse card_exists) (pick w then refuse bad_time else pick l then refuse no_card_place else next) t, if-true {A = ℕ} h 4 (pick w then 7 else pick l then 8 else 0) t) a)
+        (λ t. rw (if-false h (refuse card_exists) (pick w then refuse bad_time else pick l then refuse no_card_place else next) t, if-false {A = ℕ} h 4 (pick w then 7 else pick l then 8 else 0) t)
         (test-cases _ w
-        (λ u. rw (if-true w (refuse bad_time) (if l then refuse no_card_place else next) u, if-true {A = ℕ} w 7 (if l then 8 else 0) u) b)
-        (λ u. rw (if-false w (refuse bad_time) (if l then refuse no_card_place else next) u, if-false {A = ℕ} w 7 (if l then 8 else 0) u)
+        (λ u. rw (if-true w (refuse bad_time) (pick l then refuse no_card_place else next) u, if-true {A = ℕ} w 7 (pick l then 8 else 0) u) b)
+        (λ u. rw (if-false w (refuse bad_time) (pick l then refuse no_card_place else next) u, if-false {A = ℕ} w 7 (pick l then 8 else 0) u)
         (test-cases _ l
         (λ x. rw (if-true l (refuse no_card_place) next x, if-true {A = ℕ} l 8 0 x) c)
         (λ x. rw (if-false l (refuse no_card_place) next x, if-false {A = ℕ} l 8 0 x) (d t u x))))))

@@ -8,7 +8,7 @@ use mathlib.Core.Option.{Option, none, some}
 use Prim.Native.Nat.{ℕ, ◌*◌}
 use lib.Dec.{eqb}
 use lib.ListN.{replicate}
-use Rattle.rules.specs.Lists.{if◌then◌else◌, member}
+use Rattle.rules.specs.Lists.{pick◌then◌else◌, member}
 use Rattle.rules.specs.Sizes.{most_runs, archive_runs}
 use Rattle.rules.specs.Extent.{Extent}
 use Rattle.rules.specs.Group.{empty_group, set_checksum_slot}
@@ -195,5 +195,5 @@ write-limit object offset xs t s = refl
 pub grow-limit : (s : Store)
     → grow_file 20480 (time 8 9) s (card 20479 5 12 13)
     ≡ carried_out 0 (grow_change 7 20479 20480) (time 8 9) s (plan_of 4 grow_units (grow_change 7 20479 20480) (card 20479 5 12 13) s)
-unfolding grow_file if◌then◌else◌ first_case is_past_limit is_below_size time_wrong card
+unfolding grow_file pick◌then◌else◌ first_case is_past_limit is_below_size time_wrong card
 grow-limit s = refl

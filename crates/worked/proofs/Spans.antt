@@ -9,7 +9,7 @@ use Prim.Native.Nat.{ℕ}
 use lib.ListN.{length}
 use lib.Seq.{length-take-le}
 use native.Mathlib.Omega.{arith}
-use Rattle.rules.specs.Lists.{if◌then◌else◌}
+use Rattle.rules.specs.Lists.{pick◌then◌else◌}
 use Rattle.rules.specs.Sizes.{most_runs}
 use Rattle.rules.specs.Card.{Card}
 use Rattle.rules.specs.Extent.{Extent}
@@ -139,5 +139,5 @@ pub after-clipping : (given : List ℕ) → length given ≡ 1048577 → (s : St
     → write_file most_runs 9223372036853727231 given (time 8 9) s card
     ≡ carried_out 1048576 (write_change card.object card.size 9223372036853727231 given) (time 8 9) s
     (plan_of most_runs write_units (write_change card.object card.size 9223372036853727231 given) card s)
-unfolding write_file if◌then◌else◌ first_case is_past_limit time_wrong
+unfolding write_file pick◌then◌else◌ first_case is_past_limit time_wrong
 after-clipping given h s card = rw (h, clips given h) refl
