@@ -24,7 +24,7 @@ loop-i-preserved c =
     let v = c.loop-i.invariant in
     let t = c.loop-i-test.true in
     let h = c.hand_out_piece-last in
-    (omega (arith, t), h.auto.1.1.1.1.1.1.1.0 ∙ v.1, h.ensures.0, handed-more _ _ _ _ _ _ _ _ _ _ refl v.3 _ t c.triple_at-t.ensures _ h.auto.1.1.1.1.1.1.1.1.0 h.ensures.1)
+    (omega (arith, t), h.auto.blocks ∙ v.1, h.ensures.in_hand_2, handed-more _ _ _ _ _ _ _ _ _ _ refl v.3 _ t c.triple_at-t.ensures _ h.auto.piece h.ensures.piece_after)
 
 pub returns : goal.returns
 returns c = handed-all _ _ _ _ _ _ _ _ _ _ refl c.loop-i.invariant.3 c.loop-i-test.false

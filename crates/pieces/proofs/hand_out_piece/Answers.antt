@@ -25,7 +25,7 @@ hand_out-requires c =
     let u = c.units_touched-k.ensures in
     let s = c.map_stretch-next in
     let w = read-within _ _ _ _ c.read_length-n.ensures c.if-n-eq0.false in
-    let l = blocks-room _ s.new.1.1.1.1.1.1.0 u.2 (s.auto.1.1.1.1.1.1.0 ∙ p.blocks_len) in
+    let l = blocks-room _ s.new.blocks u.2 (s.auto.blocks ∙ p.blocks_len) in
     record { n_bound = omega (arith, l, u.0, w.0); n_in_bounds = w.3; inside = hand-inside _ _ _ _ _ _ _ p.extents_right s.ensures.1 }
 
 pub returns : goal.returns
