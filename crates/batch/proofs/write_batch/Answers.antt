@@ -1,0 +1,20 @@
+-- `batch::write_batch` meets its contract.
+-- Assumes nothing.
+use mathlib.Core.Path.{sym, ◌∙◌}
+use Rattle.batch_tests.proofs.TestLaws.{lengths-add, list-short}
+use Rattle.batch.proofs.BatchLaws.{extents-placed, unshared-all, batch-refused, batch-tried}
+use Rattle.batch.proofs.write_batch.Goals as goal
+
+pub returns-then-batch_wrong : goal.returns-then-batch_wrong
+returns-then-batch_wrong c = batch-refused _ _ _ _ _ c.batch_wrong.ensures c.if-batch_wrong.true
+
+pub tests_again-shared-requires : goal.tests_again-shared-requires
+tests_again-shared-requires c = extents-placed _ c.requires
+
+pub write_all-requires : goal.write_all-requires
+write_all-requires c =
+    let w = sym c.batch_wrong.ensures ∙ c.if-batch_wrong.false in
+    record { store_ready = c.requires; unshared = λ e. unshared-all _ c.requires (c.tests_again-shared.ensures.left_out e); list_value = lengths-add _ _ w; triple_bytes_len_bound = list-short _ _ w }
+
+pub returns : goal.returns
+returns c = batch-tried _ _ _ _ _ c.batch_wrong.ensures c.if-batch_wrong.false _ c.write_all.ensures
