@@ -1,0 +1,15 @@
+-- `volume::sangueko_read_many` meets its contract.
+-- Assumes nothing.
+use Rattle.intake.proofs.JoinLaws.{not_stopped}
+use Rattle.volume.proofs.ReadLaws.{read-ready}
+use Rattle.volume.proofs.ReadManyLaws.{many-stopped, many-gives}
+use Rattle.volume.proofs.sangueko_read_many.Goals as goal
+
+pub returns-then-number-ne0 : goal.returns-then-number-ne0
+returns-then-number-ne0 c = many-stopped _ _ _ _ c.refused-number.ensures c.if-number-ne0.true
+
+pub read_many-done-requires : goal.read_many-done-requires
+read_many-done-requires c = read-ready _ (not_stopped _ _ c.refused-number.ensures c.if-number-ne0.false)
+
+pub returns : goal.returns
+returns c = many-gives _ _ _ (not_stopped _ _ c.refused-number.ensures c.if-number-ne0.false) _ _ _ c.read_many-done.ensures
