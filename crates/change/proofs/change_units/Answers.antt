@@ -60,9 +60,12 @@ slice_bounds-carry_change-start-5 c = omega (arith, c.plan_change-plan.ensures.s
 pub carry_change-requires : goal.carry_change-requires
 carry_change-requires c =
     let pre = c.requires in
-    let plan = c.plan_change-plan in record { carry_ready = carry-ready' _ _ _ _ _ _ _ _ pre.change_ready _ _ _ _ _ pre.head_says _ _ _ _ _ _ (c.plan_change-plan.ensures.change_planned _ _ (change-for _ _ _ _ _ _ _ _ pre.change_ready _ _ _ _ _ pre.head_says))
+    let plan = c.plan_change-plan in record {
+      carry_ready = carry-ready' _ _ _ _ _ _ _ _ pre.change_ready _ _ _ _ _ pre.head_says _ _ _ _ _ _ (c.plan_change-plan.ensures.change_planned _ _ (change-for _ _ _ _ _ _ _ _ pre.change_ready _ _ _ _ _ pre.head_says))
           (arrays-after pre.arrays_each.0 (omega (arith, c.plan_change-plan.auto.slots)) (omega (arith, c.plan_change-plan.auto.old)) (omega (arith, c.plan_change-plan.auto.kept)) (omega (arith, c.plan_change-plan.auto.blocks)))
-          plan.ensures.blocks_of plan.ensures.skip_in_bounds.1 c.if-plan-ne0.false _ _ _ _ _ refl refl refl refl refl; extent_bytes_in_bounds = pre.arrays_each.1 }
+          plan.ensures.blocks_of plan.ensures.skip_in_bounds.1 c.if-plan-ne0.false _ _ _ _ _ refl refl refl refl refl;
+      extent_bytes_in_bounds = pre.arrays_each.1;
+    }
 
 pub shape_of-slots : goal.shape_of-slots
 shape_of-slots c = omega (arith, c.plan_change-plan.auto.slots)
