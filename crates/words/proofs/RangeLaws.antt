@@ -5,13 +5,13 @@ use mathlib.Core.Bool.{Bool, true, false, ◌&&◌}
 use mathlib.Core.List.{List, [], ◌∷◌, ◌++◌, append_assoc}
 use Prim.Native.Nat.{ℕ, zero, suc, ◌+◌, ◌-◌, ◌≤◌, ◌<◌}
 use native.Mathlib.Nat.{add-suc, suc-add, sub_self}
+use native.Mathlib.Numerals.{add-one}
 use native.Mathlib.Omega.{arith}
 use borrow.Author.Tests.{ne_eqb}
-use borrow.Rule.Slice.PartMut.{put_mid}
 use lib.Bits.{bit_or, or_zero_l, or_add_and, and_le_r}
 use lib.Dec.{eqb, eqb-suc-zero}
 use lib.ListN.{length, take, drop, get_or, set, replicate, length-append, length-replicate, replicate-append-replicate}
-use lib.Seq.{sets-eq, length-take-le, set-append_left, take-set-lt, take-suc-set, append_snoc, drop-drop}
+use lib.Seq.{sets-eq, length-take-le, set-append_left, take-suc, take-set-lt, take-suc-set, take_all, append_snoc}
 use Rattle.rules.specs.Lists.{all}
 use Rattle.rules.specs.Bytes.{part, patch, all_zero}
 use Rattle.rules.proofs.ListLaws.{all_append}
@@ -109,13 +109,23 @@ zeros-more s a i x q l h =
     let z : eqb (get_or s i 0) 0 ≡ eqb (get_or s i 0) 0 && true = sym (and-true (eqb (get_or s i 0) 0)) in
     rw (or-zero x (get_or s i 0), q, w, part-snoc s a (i - a) (omega arith), y, all_append (λ b. eqb b 0) (part a (i - a) s) (get_or s i 0 ∷ []), ← z) refl
 
--- ---- a copy through a part of the slice that starts at its place
+-- ---- a copy of another slice
 
-pub copied : (s x u : List ℕ) (at : ℕ) → u ≡ x → put_mid at (at + length x - at) s u ≡ patch s at x
-unfolding patch
-copied s x u at e =
-    let w : at + length x - at ≡ length x = omega arith in
-    rw (w, e, drop-drop (length x) at s, ← append_assoc (take at s) x (drop (at + length x) s)) refl
+-- nothing of it yet
+pub copied-none : (s x : List ℕ) (at : ℕ) → s ≡ patch s at (take 0 x)
+copied-none s x at = sym (patch-none s at)
+
+-- one byte more
+pub copied-more : (s₀ s x : List ℕ) (at i : ℕ) → s ≡ patch s₀ at (take i x) → at + length x ≤ length s₀ → i < length x
+    → set s (at + i) (get_or x i 0) ≡ patch s₀ at (take (i + 1) x)
+copied-more s₀ s x at i e h l =
+    let n : length (take i x) ≡ i = length-take-le i x (omega arith) in
+    let t : take (i + 1) x ≡ take i x ++ (get_or x i 0 ∷ []) = rw add-one (take-suc x i 0 l) in
+    rw (e, t) (patch-snoc s₀ at (at + i) (get_or x i 0) (take i x) (omega arith) (omega arith))
+
+-- all of it
+pub copied : (s₀ s x : List ℕ) (at i : ℕ) → s ≡ patch s₀ at (take i x) → length x ≤ i → s ≡ patch s₀ at x
+copied s₀ s x at i e h = let w : take i x ≡ x = take_all i x h in rw w at e
 
 -- a copy of a part of another slice
 pub copied-part : (s x u : List ℕ) (at from n : ℕ) → u ≡ patch s at (take (from + n - from) (drop from x)) → u ≡ patch s at (part from n x)

@@ -7,7 +7,11 @@ pub fn copy(s: &mut [u8], at: usize, x: &[u8])
     requires { at + length x.now ≤ length s.old }
     ensures { s.new ≡ patch s.old at x.now }
 {
-    s[at..at + x.len()].copy_from_slice(x);
+    let mut i: usize = 0;
+    while i < x.len() {
+        s[at + i] = x[i];
+        i += 1;
+    }
 }
 
 // The `n` bytes of `x` from `from` on into `s` from `at` on.

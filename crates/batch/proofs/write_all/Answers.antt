@@ -1,5 +1,4 @@
 use mathlib.Core.Path.{refl, ◌∙◌}
-use Prim.Native.Nat.{◌-◌}
 use native.Mathlib.Omega.{arith}
 use Rattle.batch.proofs.BatchLaws.{between_first, bytes-there, between-stopped, between_more, between-last}
 use borrow.Author.Rules.{rules}

@@ -1,5 +1,4 @@
 use borrow.Author.Rules.{rules}
-use Prim.Native.Nat.{◌-◌}
 use Rattle.checksum_group.proofs.SlotLaws.{slots-from, slots_next, slots-eight}
 use Rattle.checksum_group.proofs.absent_values.Goals as goal
 

@@ -1,5 +1,4 @@
 use borrow.Author.Rules.{rules}
-use Prim.Native.Nat.{◌-◌}
 use Rattle.checksum_group.proofs.SlotLaws.{bytes-none, bytes-more, bytes-all}
 use Rattle.checksum_group.proofs.absent_zero.Goals as goal
 

@@ -1,7 +1,7 @@
 use Rattle.crc32c_tables.proofs.RegisterLaws.{none-fed, pair-more}
 use native.Mathlib.Omega.{arith}
 use lib.ListN.{length}
-use Prim.Native.Nat.{◌-◌, ◌*◌, ◌/◌}
+use Prim.Native.Nat.{◌*◌, ◌/◌}
 use mathlib.Core.Path.{◌≡◌}
 use borrow.Author.Rules.{rules}
 use Rattle.crc32c_tables.proofs.feed_pairs.Goals as goal

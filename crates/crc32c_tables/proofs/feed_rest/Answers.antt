@@ -1,6 +1,5 @@
 use Rattle.crc32c_tables.proofs.RegisterLaws.{rest-none, rest_more, rest_all}
 use native.Mathlib.Omega.{arith}
-use Prim.Native.Nat.{◌-◌}
 use borrow.Author.Rules.{rules}
 use Rattle.crc32c_tables.proofs.feed_rest.Goals as goal
 

@@ -1,5 +1,4 @@
 use native.Mathlib.Omega.{arith}
-use Prim.Native.Nat.{◌-◌}
 use Rattle.crc32c_window.proofs.WindowLaws.{pushed_none, pushed_more, pushed-all}
 use borrow.Author.Rules.{rules}
 use Rattle.crc32c_window.proofs.push.Goals as goal

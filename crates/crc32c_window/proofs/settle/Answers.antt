@@ -1,5 +1,4 @@
 use native.Mathlib.Omega.{arith}
-use Prim.Native.Nat.{◌-◌}
 use lib.ListN.{length-set}
 use Rattle.crc32c_window.proofs.WindowLaws.{settled-none, settled-more, settled-all}
 use borrow.Author.Rules.{rules}

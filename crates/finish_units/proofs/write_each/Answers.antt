@@ -1,5 +1,4 @@
 use mathlib.Core.Path.{refl, ◌∙◌}
-use Prim.Native.Nat.{◌-◌}
 use native.Mathlib.Omega.{arith}
 use Rattle.finish_units.proofs.CarryLaws.{fit_same, writing-none, writing_more, writing-all}
 use Rattle.finish_units.proofs.write_each.Goals as goal

@@ -1,4 +1,3 @@
-use Prim.Native.Nat.{◌-◌}
 use borrow.Author.Rules.{rules}
 use Rattle.halving.proofs.HalvingLaws.{halving-none, halving-low, halving-high, halving-count, halving-ends, halving-looks, halving-twenty}
 use Rattle.halving.proofs.KeyLaws.{key_fits, place-fits, reached-at, owned-none, owned-next}

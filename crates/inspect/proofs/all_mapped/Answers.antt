@@ -1,4 +1,3 @@
-use Prim.Native.Nat.{◌-◌}
 use native.Mathlib.Omega.{arith}
 use Rattle.inspect.proofs.BlockLaws.{not-mapped, named_more, all-mapped}
 use borrow.Author.Rules.{rules}

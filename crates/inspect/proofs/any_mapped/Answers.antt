@@ -1,4 +1,3 @@
-use Prim.Native.Nat.{◌-◌}
 use native.Mathlib.Omega.{arith}
 use Rattle.inspect.proofs.BlockLaws.{some_mapped, zeros-more, none-mapped}
 use borrow.Author.Rules.{rules}

@@ -1,4 +1,3 @@
-use Prim.Native.Nat.{◌-◌}
 use native.Mathlib.Omega.{arith}
 use Rattle.inspect.proofs.AnswerLaws.{number-begun, number_more, number-refused, number-done}
 use Rattle.inspect.proofs.check_units.Goals as goal

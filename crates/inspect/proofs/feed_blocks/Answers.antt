@@ -1,4 +1,3 @@
-use Prim.Native.Nat.{◌-◌}
 use native.Mathlib.Omega.{arith}
 use Rattle.inspect.proofs.BlockLaws.{none_before, all-before}
 use Rattle.inspect.proofs.feed_blocks.Goals as goal

@@ -1,4 +1,3 @@
-use Prim.Native.Nat.{◌-◌}
 use native.Mathlib.Omega.{arith}
 use Rattle.inspect.proofs.BlockLaws.{run-one, run_more}
 use borrow.Author.Rules.{rules}

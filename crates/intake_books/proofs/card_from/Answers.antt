@@ -1,5 +1,4 @@
 use borrow.Author.Rules.{rules}
-use Prim.Native.Nat.{◌-◌}
 use Rattle.intake_books.proofs.FileLaws.{under_none, under_more, from-here, from_end}
 use Rattle.intake_books.proofs.card_from.Goals as goal
 

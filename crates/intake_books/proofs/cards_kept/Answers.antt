@@ -1,5 +1,4 @@
 use borrow.Author.Rules.{rules}
-use Prim.Native.Nat.{◌-◌}
 use Rattle.intake_books.proofs.WalkLaws.{kept-none, kept_more}
 use Rattle.intake_books.proofs.BookRules.{cards-not, cards-done}
 use Rattle.intake_books.proofs.cards_kept.Goals as goal

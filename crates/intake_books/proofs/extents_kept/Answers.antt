@@ -1,5 +1,4 @@
 use borrow.Author.Rules.{rules}
-use Prim.Native.Nat.{◌-◌}
 use Rattle.book.proofs.OrderLaws.{extent-first, extent-next}
 use Rattle.intake_books.proofs.WalkLaws.{kept_more}
 use Rattle.intake_books.proofs.BookRules.{extents-none, extents-first-not, extents-first, extents-not, extents-done}

@@ -1,6 +1,5 @@
 use Rattle.intake_books.proofs.FileLaws.{passed_none, passed_on, filed-none, card-there, filed-through, filed-not, filed-done}
 use native.Mathlib.Omega.{arith}
-use Prim.Native.Nat.{◌-◌}
 use borrow.Author.Rules.{rules}
 use mathlib.Core.Bool.{not}
 use mathlib.Core.Path.{ap}

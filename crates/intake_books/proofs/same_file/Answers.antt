@@ -1,5 +1,4 @@
 use Rattle.intake_books.proofs.FileLaws.{within_none, within_more, same_here, same_end}
-use Prim.Native.Nat.{◌-◌}
 use borrow.Author.Rules.{rules}
 use Rattle.intake_books.proofs.same_file.Goals as goal
 

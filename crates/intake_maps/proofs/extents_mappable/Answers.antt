@@ -1,4 +1,3 @@
-use Prim.Native.Nat.{◌-◌}
 use native.Mathlib.Omega.{arith}
 use Rattle.intake_maps.specs.MapTests.{extent_mappable}
 use Rattle.book.proofs.SearchLaws.{passes-more}

@@ -1,5 +1,4 @@
 use mathlib.Core.Path.{refl, ◌∙◌}
-use Prim.Native.Nat.{◌-◌}
 use native.Mathlib.Omega.{arith}
 use Rattle.pieces.proofs.PiecesLaws.{hand-none, handed-none, handed-room, handed-more, handed-all}
 use Rattle.pieces.proofs.hand_out_each.Goals as goal

@@ -1,5 +1,4 @@
 use native.Mathlib.Omega.{arith}
-use Prim.Native.Nat.{◌-◌}
 use Rattle.probe.proofs.ProbeLaws.{repeated-none, repeated-more, repeated-all}
 use borrow.Author.Rules.{rules}
 use Rattle.probe.proofs.sangueko_probe_crc32c_repeated.Goals as goal

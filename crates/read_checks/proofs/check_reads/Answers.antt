@@ -1,5 +1,4 @@
 use mathlib.Core.Path.{◌∙◌, sym}
-use Prim.Native.Nat.{◌-◌}
 use native.Mathlib.Omega.{arith}
 use Rattle.read_checks.proofs.CheckedLaws.{list-none, list-stop, list-more, list_all}
 use borrow.Author.Rules.{rules}

@@ -1,4 +1,3 @@
-use Prim.Native.Nat.{◌-◌}
 use native.Mathlib.Omega.{arith}
 use Rattle.read_checks.proofs.StretchLaws.{passed_none, passed-stop, passed-more, passed-all}
 use borrow.Author.Rules.{rules}

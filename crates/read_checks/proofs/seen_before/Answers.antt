@@ -1,4 +1,3 @@
-use Prim.Native.Nat.{◌-◌}
 use Rattle.read_checks.proofs.NumberLaws.{seen_none, seen_more, seen_here, seen_never}
 use borrow.Author.Rules.{rules}
 use Rattle.read_checks.proofs.seen_before.Goals as goal

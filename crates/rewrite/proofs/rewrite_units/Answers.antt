@@ -1,5 +1,4 @@
 use mathlib.Core.Path.{refl}
-use Prim.Native.Nat.{◌-◌}
 use native.Mathlib.Omega.{arith}
 use Rattle.rewrite.proofs.WalkLaws.{walk_none, walk-device, walk-arrays, walk_refused, walk_more, walk-all}
 use Rattle.rewrite.proofs.rewrite_units.Goals as goal

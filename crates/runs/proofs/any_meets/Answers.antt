@@ -1,4 +1,4 @@
-use Rattle.std.proofs.Common.{◌-◌, rules}
+use Rattle.std.proofs.Common.{rules}
 use Rattle.runs.proofs.RunLaws.{meets-none, meets-more, meets-all}
 use Rattle.runs.proofs.any_meets.Goals as goal
 

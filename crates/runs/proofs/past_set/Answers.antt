@@ -1,4 +1,4 @@
-use Rattle.std.proofs.Common.{◌-◌, rules}
+use Rattle.std.proofs.Common.{rules}
 use Rattle.runs.proofs.RunLaws.{behind-none, behind_more, behind-set, behind-all}
 use Rattle.runs.proofs.past_set.Goals as goal
 

@@ -1,4 +1,4 @@
-use Rattle.std.proofs.Common.{◌-◌, rules}
+use Rattle.std.proofs.Common.{rules}
 use Rattle.runs.proofs.RunLaws.{passed_none, window-clear, window-set, lowest-none}
 use Rattle.runs.proofs.run_bits.Goals as goal
 

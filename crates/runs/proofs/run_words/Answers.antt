@@ -1,4 +1,4 @@
-use Rattle.std.proofs.Common.{◌-◌, arith, rules}
+use Rattle.std.proofs.Common.{arith, rules}
 use Rattle.runs.proofs.RunLaws.{passed_none, word-full, word-run, word_none, lowest-on}
 use Rattle.runs.proofs.run_words.Goals as goal
 

@@ -1,4 +1,3 @@
-use Prim.Native.Nat.{◌-◌}
 use Rattle.sharing.proofs.SharingLaws.{here_on, seen_none, seen_more, seen_twice, seen_end}
 use borrow.Author.Rules.{rules}
 use Rattle.sharing.proofs.blocks_shared.Goals as goal

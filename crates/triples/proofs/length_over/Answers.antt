@@ -1,5 +1,4 @@
 use mathlib.Core.Path.{refl}
-use Prim.Native.Nat.{◌-◌}
 use Rattle.triples.proofs.TripleLaws.{over-start, over-found, over-more, over-end}
 use borrow.Author.Rules.{rules}
 use Rattle.triples.proofs.length_over.Goals as goal

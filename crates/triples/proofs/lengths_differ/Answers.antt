@@ -1,5 +1,4 @@
 use mathlib.Core.Path.{refl}
-use Prim.Native.Nat.{◌-◌}
 use Rattle.triples.proofs.TripleLaws.{left-start, left-differs, left-more, left-none}
 use borrow.Author.Rules.{rules}
 use Rattle.triples.proofs.lengths_differ.Goals as goal

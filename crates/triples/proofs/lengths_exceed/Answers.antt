@@ -1,5 +1,4 @@
 use mathlib.Core.Path.{refl}
-use Prim.Native.Nat.{◌-◌}
 use Rattle.triples.proofs.TripleLaws.{left-start, left-short, left-more, left_end}
 use borrow.Author.Rules.{rules}
 use Rattle.triples.proofs.lengths_exceed.Goals as goal

@@ -1,4 +1,3 @@
-use Prim.Native.Nat.{◌-◌}
 use Rattle.allocation.proofs.GroupLaws.{groups_is}
 use Rattle.allocation.proofs.RunLaws.{turned_none, turned-run, turned_more, turned-all}
 use borrow.Author.Rules.{rules}

@@ -1,4 +1,3 @@
-use Prim.Native.Nat.{◌-◌}
 use Rattle.allocation.proofs.RunLaws.{written_none, written-more, written_all}
 use borrow.Author.Rules.{rules}
 use Rattle.allocation.proofs.run.from.Goals as goal

@@ -1,4 +1,3 @@
-use Prim.Native.Nat.{◌-◌}
 use borrow.Author.Rules.{rules}
 use Rattle.book.proofs.SearchLaws.{fails-none, fails_more, found_first, found_none}
 use Rattle.book.proofs.find.covering.Goals as goal

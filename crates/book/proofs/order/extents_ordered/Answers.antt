@@ -1,4 +1,3 @@
-use Prim.Native.Nat.{◌-◌}
 use borrow.Author.Rules.{rules}
 use Rattle.book.proofs.OrderLaws.{follow-none, follows-empty, extents-more, extents-not, extents-all, extent-first, extent-next}
 use Rattle.book.proofs.order.extents_ordered.Goals as goal

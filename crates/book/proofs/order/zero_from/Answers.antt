@@ -1,5 +1,4 @@
 use borrow.Author.Rules.{rules}
-use Prim.Native.Nat.{◌-◌}
 use Rattle.book.proofs.OrderLaws.{zero-none, zero_more, zero-not, zero_rest}
 use Rattle.book.proofs.order.zero_from.Goals as goal
 

@@ -1,4 +1,3 @@
-use Prim.Native.Nat.{◌-◌}
 use native.Mathlib.Omega.{arith}
 use Rattle.finish_books.proofs.StepLaws.{right-at, steps-none, place_none, next-there, steps-more, steps-known, steps_all}
 use borrow.Author.Rules.{rules}

@@ -3,7 +3,6 @@
 use Rattle.finish_books.proofs.MapLaws.{gone-block, marked-yes, marked-no}
 use native.Mathlib.Omega.{arith}
 use mathlib.Core.Path.{sym, ◌∙◌}
-use borrow.Author.Rules.{rules}
 use Rattle.finish_books.proofs.maps.mark_gone.Goals as goal
 
 pub overflow_sub-old : goal.overflow_sub-old

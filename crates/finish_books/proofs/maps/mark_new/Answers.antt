@@ -3,7 +3,6 @@
 use Rattle.finish_books.proofs.MapLaws.{marked-yes, marked-no}
 use native.Mathlib.Omega.{arith}
 use borrow.Author.Tests.{eq-eqb, ne_eqb}
-use borrow.Author.Rules.{rules}
 use Rattle.finish_books.proofs.maps.mark_new.Goals as goal
 
 pub set-requires : goal.set-requires

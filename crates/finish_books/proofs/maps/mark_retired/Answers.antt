@@ -1,7 +1,6 @@
 use Rattle.finish_books.proofs.MapLaws.{old_inside, retired-none, retired-more, retired-all, marked-map}
 use native.Mathlib.Omega.{arith}
 use borrow.Author.Rules.{rules}
-use Prim.Native.Nat.{◌-◌}
 use Rattle.finish_books.proofs.maps.mark_retired.Goals as goal
 
 pub loop-f-init : goal.loop-f-init

@@ -1,7 +1,6 @@
 use Rattle.finish_books.proofs.MapLaws.{new-inside, used-none, used-more, used_all, marked-map}
 use native.Mathlib.Omega.{arith}
 use borrow.Author.Rules.{rules}
-use Prim.Native.Nat.{◌-◌}
 use Rattle.finish_books.proofs.maps.mark_used.Goals as goal
 
 pub loop-f-init : goal.loop-f-init

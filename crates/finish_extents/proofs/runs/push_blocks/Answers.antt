@@ -1,4 +1,3 @@
-use Prim.Native.Nat.{◌-◌}
 use borrow.Author.Rules.{rules}
 use Rattle.finish_extents.proofs.SingleLaws.{blocks-none, blocks_more, blocks-all}
 use Rattle.finish_extents.proofs.runs.push_blocks.Goals as goal

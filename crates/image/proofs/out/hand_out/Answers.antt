@@ -1,5 +1,4 @@
 use mathlib.Core.Path.{refl}
-use Prim.Native.Nat.{◌-◌}
 use native.Mathlib.Omega.{arith}
 use Rattle.image.proofs.OutLaws.{out_none, out-more, out-all}
 use borrow.Author.Rules.{rules}

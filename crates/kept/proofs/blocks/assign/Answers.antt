@@ -1,4 +1,3 @@
-use Prim.Native.Nat.{◌-◌}
 use native.Mathlib.Omega.{arith}
 use Rattle.kept.proofs.BlocksLaws.{assigning-none, assigning-room, assigning-more, assigning-all}
 use borrow.Author.Rules.{rules}

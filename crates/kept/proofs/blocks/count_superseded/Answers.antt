@@ -1,4 +1,3 @@
-use Prim.Native.Nat.{◌-◌}
 use Rattle.kept.proofs.BlocksLaws.{counting-none, counting_more, counting-all}
 use borrow.Author.Rules.{rules}
 use Rattle.kept.proofs.blocks.count_superseded.Goals as goal

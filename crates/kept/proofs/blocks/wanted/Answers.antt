@@ -1,4 +1,3 @@
-use Prim.Native.Nat.{◌-◌}
 use Rattle.kept.proofs.BlocksLaws.{wanting-none, wanting-more, wanting-all}
 use borrow.Author.Rules.{rules}
 use Rattle.kept.proofs.blocks.wanted.Goals as goal

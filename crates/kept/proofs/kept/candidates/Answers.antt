@@ -1,5 +1,4 @@
 use native.Mathlib.Omega.{arith}
-use Prim.Native.Nat.{◌-◌}
 use Rattle.kept.proofs.RetainedLaws.{choosing-none, choosing-more, choosing-all}
 use borrow.Author.Rules.{rules}
 use Rattle.kept.proofs.kept.candidates.Goals as goal

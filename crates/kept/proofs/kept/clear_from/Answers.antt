@@ -1,4 +1,3 @@
-use Prim.Native.Nat.{◌-◌}
 use Rattle.kept.proofs.RetainedLaws.{clearing-none, clearing-more, clearing-all}
 use borrow.Author.Rules.{rules}
 use Rattle.kept.proofs.kept.clear_from.Goals as goal

@@ -1,4 +1,3 @@
-use Prim.Native.Nat.{◌-◌}
 use Rattle.kept.proofs.UnitsLaws.{putting-none, putting-more, putting-all}
 use borrow.Author.Rules.{rules}
 use Rattle.kept.proofs.units.put_units.Goals as goal

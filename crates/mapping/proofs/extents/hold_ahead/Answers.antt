@@ -1,6 +1,5 @@
 use native.Mathlib.Omega.{arith}
 use mathlib.Core.Path.{refl, ◌∙◌}
-use Prim.Native.Nat.{◌-◌}
 use lib.ListN.{length-set}
 use Rattle.mapping.proofs.HeldLaws.{holding-none, holding-room, holding-more, holding-stops, holding-ends}
 use borrow.Author.Rules.{rules}

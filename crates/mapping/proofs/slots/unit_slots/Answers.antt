@@ -1,5 +1,4 @@
 use native.Mathlib.Omega.{arith}
-use Prim.Native.Nat.{◌-◌}
 use lib.ListN.{length-set}
 use Rattle.mapping.proofs.SlotLaws.{found_within, slotted-none, slotted-more, slotted-all}
 use borrow.Author.Rules.{rules}

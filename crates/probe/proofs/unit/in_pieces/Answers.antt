@@ -1,5 +1,4 @@
 use native.Mathlib.Omega.{arith}
-use Prim.Native.Nat.{◌-◌}
 use Rattle.probe.proofs.ProbeLaws.{pieces_more, pieces-all}
 use Rattle.probe.proofs.unit.in_pieces.Goals as goal
 
