@@ -5,7 +5,8 @@
 
 Run at the top of the repository, once a crate, when the crates below it are proved and its own source checks. The
 names come from `rt check --generated DIR --old-names`. An answer that was only the search is left out, as the check
-tries the search itself; one that cannot be turned keeps a line `-- LEFT:` which says why.
+tries the search itself; one that cannot be turned keeps a line `-- LEFT`.
+What a reader has to look at is printed.
 """
 import glob
 import json
@@ -122,9 +123,8 @@ def as_record(body, names):
         found.append((name, parts[0]))
         rest = parts[1] if len(parts) == 2 else '(' + ', '.join(parts[1:]) + ')'
     fields = '; '.join(f'{n} = {e}' for n, e in found)
-    gap = '' if not head or head.endswith('\n') else ' '
-    m = re.match(r'\s*', lets(body)[1])
-    return head + (m.group(0) if head else '') + f'record {{ {fields} }}'
+    space = re.match(r'\s*', lets(body)[1]).group(0) if head else ''
+    return head + space + f'record {{ {fields} }}'
 
 
 class Function:
