@@ -43,13 +43,7 @@ fn tried(
 
 // One write as a call: the number of its refusal, or 0. Refusals 1 and 2 are tried if asked for.
 fn write_next(
-    image: &mut [u8],
-    head: &mut [u8],
-    cards: &mut [u8],
-    extents: &mut [u8],
-    groups: &mut [u8],
-    used: &mut [u8],
-    retired: &mut [u8],
+    store: &mut Store<'_>,
     again: bool,
     object: u64,
     offset: u64,
@@ -57,21 +51,15 @@ fn write_next(
     seconds: u64,
     nanoseconds: u64,
 ) -> u32
-    requires { again ≡ false → Passes (lent image.old head.old cards.old extents.old groups.old used.old retired.old) }
-    ensures { Wrote object offset bytes.now seconds nanoseconds (lent image.old head.old cards.old extents.old groups.old used.old retired.old) result (lent image.new head.new cards.new extents.new groups.new used.new retired.new) }
+    requires { again ≡ false → Passes (store_of store.old) }
+    ensures { Wrote object offset bytes.now seconds nanoseconds (store_of store.old) result (store_of store.new) }
 {
     let number = tried(image, head, cards, extents, groups, used, retired, again);
     if number != 0 {
         return number;
     }
     let done = write::write::write_file(
-        image,
-        head,
-        cards,
-        extents,
-        groups,
-        used,
-        retired,
+        store,
         MOST_RUNS,
         object,
         offset,
@@ -85,24 +73,18 @@ fn write_next(
 // The writes of a list, each of as many of the bytes as it says, one after another: how many were done, and the number of what stopped them or 0. Before
 // each but the first refusals 1 and 2 are tried again where a block is shared.
 fn write_all(
-    image: &mut [u8],
-    head: &mut [u8],
-    cards: &mut [u8],
-    extents: &mut [u8],
-    groups: &mut [u8],
-    used: &mut [u8],
-    retired: &mut [u8],
+    store: &mut Store<'_>,
     shared: bool,
     list: &[u8],
     bytes: &[u8],
     seconds: u64,
     nanoseconds: u64,
 ) -> Done
-    requires store_ready { StoreReady (lent image.old head.old cards.old extents.old groups.old used.old retired.old) }
-    requires unshared { shared ≡ false → Unshared (decode (lent image.old head.old cards.old extents.old groups.old used.old retired.old)) }
+    requires store_ready { StoreReady (store_of store.old) }
+    requires unshared { shared ≡ false → Unshared (decode (store_of store.old)) }
     requires list_value { lengths_of (decode_triples list.now) ≡ length bytes.now }
     requires triple_bytes_len_bound { length list.now / triple_bytes ≤ most_triples }
-    ensures { answered result.number result.count (lent image.new head.new cards.new extents.new groups.new used.new retired.new) ≡ batch_from (decode_triples list.now) bytes.now (record { seconds = seconds; nanoseconds = nanoseconds }) 0 (lent image.old head.old cards.old extents.old groups.old used.old retired.old) }
+    ensures { answered result.number result.count (store_of store.new) ≡ batch_from (decode_triples list.now) bytes.now (record { seconds = seconds; nanoseconds = nanoseconds }) 0 (store_of store.old) }
 {
     let n = list.len() / TRIPLE_BYTES;
     let mut again = false;
@@ -112,13 +94,7 @@ fn write_all(
         let t = triples::triple_at(list, i);
         let end = at + t.len as usize;
         let number = write_next(
-            image,
-            head,
-            cards,
-            extents,
-            groups,
-            used,
-            retired,
+            store,
             again,
             t.object,
             t.offset,
@@ -144,20 +120,14 @@ fn write_all(
 
 // A batch of writes: refusal 18, or how many were done and the number of what stopped them or 0.
 pub fn write_batch(
-    image: &mut [u8],
-    head: &mut [u8],
-    cards: &mut [u8],
-    extents: &mut [u8],
-    groups: &mut [u8],
-    used: &mut [u8],
-    retired: &mut [u8],
+    store: &mut Store<'_>,
     list: &[u8],
     bytes: &[u8],
     seconds: u64,
     nanoseconds: u64,
 ) -> Done
-    requires { StoreReady (lent image.old head.old cards.old extents.old groups.old used.old retired.old) }
-    ensures { answered result.number result.count (lent image.new head.new cards.new extents.new groups.new used.new retired.new) ≡ batch_tried list.now bytes.now (record { seconds = seconds; nanoseconds = nanoseconds }) (lent image.old head.old cards.old extents.old groups.old used.old retired.old) }
+    requires { StoreReady (store_of store.old) }
+    ensures { answered result.number result.count (store_of store.new) ≡ batch_tried list.now bytes.now (record { seconds = seconds; nanoseconds = nanoseconds }) (store_of store.old) }
 {
     if batch_tests::batch_wrong(list, bytes) {
         return Done {
@@ -167,13 +137,7 @@ pub fn write_batch(
     }
     let shared = batch_tests::tests_again(head, extents, list);
     write_all(
-        image,
-        head,
-        cards,
-        extents,
-        groups,
-        used,
-        retired,
+        store,
         shared,
         list,
         bytes,

@@ -20,6 +20,7 @@ ghost use Rattle.carry.specs.Carry.{CarryReady, CarryFor};
 
 use finish_extents::Exchange;
 use finish_fit::Fit;
+use lent::Store;
 use format::sizes::{BLOCK_BYTES, UNIT_BLOCKS};
 use rewrite::Change;
 
@@ -70,13 +71,7 @@ fn fit_change(
 // The units of a plan carried out, or 15 or 16: the arrays have what was looked up of them and what each keeps and is given. `made` has room for the
 // extents that are put in.
 pub fn carry_change(
-    image: &mut [u8],
-    head: &mut [u8],
-    cards: &mut [u8],
-    extents: &mut [u8],
-    groups: &mut [u8],
-    used: &mut [u8],
-    retired: &mut [u8],
+    store: &mut Store<'_>,
     n: usize,
     m: usize,
     g: usize,
@@ -95,23 +90,17 @@ pub fn carry_change(
     blocks: &[u32],
     made: &mut [u8],
 ) -> u32
-    requires carry_ready { CarryReady (lent image.old head.old cards.old extents.old groups.old used.old retired.old) n m g object change bytes.now allocated seconds nanoseconds hint units.now slots.now old.now kept.now blocks.now }
+    requires carry_ready { CarryReady (store_of store.old) n m g object change bytes.now allocated seconds nanoseconds hint units.now slots.now old.now kept.now blocks.now }
     requires extent_bytes_in_bounds { extent_bytes * 290 ≤ length made.old }
-    ensures { (limit : ℕ) (c : rules.Change) (p : rewriting.Progress) (k : rewriting.Plan) → CarryFor limit (lent image.old head.old cards.old extents.old groups.old used.old retired.old) c p k uuid.now object change bytes.now allocated hint units.now slots.now old.now kept.now blocks.now → numbered result (lent image.new head.new cards.new extents.new groups.new used.new retired.new) ≡ result_of (lent image.old head.old cards.old extents.old groups.old used.old retired.old) [] (carried_out 0 c (record { seconds = seconds; nanoseconds = nanoseconds }) (lent image.old head.old cards.old extents.old groups.old used.old retired.old) k) }
+    ensures { (limit : ℕ) (c : rules.Change) (p : rewriting.Progress) (k : rewriting.Plan) → CarryFor limit (store_of store.old) c p k uuid.now object change bytes.now allocated hint units.now slots.now old.now kept.now blocks.now → numbered result (store_of store.new) ≡ result_of (store_of store.old) [] (carried_out 0 c (record { seconds = seconds; nanoseconds = nanoseconds }) (store_of store.old) k) }
 {
     let flat = flat_blocks(change.new_size, units);
-    let fit = fit_change(extents, m, groups, g, object, units, &blocks[..flat], made);
+    let fit = fit_change(store.extents, m, store.groups, g, object, units, &blocks[..flat], made);
     if fit.number != 0 {
         return fit.number;
     }
     file::carry_out::carry_out(
-        image,
-        head,
-        cards,
-        extents,
-        groups,
-        used,
-        retired,
+        store,
         n,
         m,
         g,

@@ -23,13 +23,7 @@ const MADE_BYTES: usize = 9570;
 
 // The plan of a change in the lent arrays, and what becomes of it. The head counts `n` cards, `m` extents and `g` groups.
 fn change_units(
-    image: &mut [u8],
-    head: &mut [u8],
-    cards: &mut [u8],
-    extents: &mut [u8],
-    groups: &mut [u8],
-    used: &mut [u8],
-    retired: &mut [u8],
+    store: &mut Store<'_>,
     n: usize,
     m: usize,
     g: usize,
@@ -49,10 +43,10 @@ fn change_units(
     blocks: &mut [u32],
     made: &mut [u8],
 ) -> u32
-    requires change_ready { ChangeReady (lent image.old head.old cards.old extents.old groups.old used.old retired.old) object change bytes.now allocated seconds nanoseconds units.now }
-    requires head_says { HeadSays (lent image.old head.old cards.old extents.old groups.old used.old retired.old) n m g hint uuid.now }
+    requires change_ready { ChangeReady (store_of store.old) object change bytes.now allocated seconds nanoseconds units.now }
+    requires head_says { HeadSays (store_of store.old) n m g hint uuid.now }
     requires arrays_each { ArraysEach units.now slots.old old.old kept.old blocks.old × (extent_bytes * 290 ≤ length made.old) }
-    ensures { numbered result (lent image.new head.new cards.new extents.new groups.new used.new retired.new) ≡ changed limit (lent image.old head.old cards.old extents.old groups.old used.old retired.old) object change bytes.now allocated seconds nanoseconds units.now }
+    ensures { numbered result (store_of store.new) ≡ changed limit (store_of store.old) object change bytes.now allocated seconds nanoseconds units.now }
 {
     let plan = file::plan::plan_change(
         image, uuid, extents, m, groups, g, used, limit, object, change, units, slots, old, kept,
@@ -64,13 +58,7 @@ fn change_units(
     let skip = plan.skip;
     let from = UNIT_BLOCKS * skip;
     carry::carry_change(
-        image,
-        head,
-        cards,
-        extents,
-        groups,
-        used,
-        retired,
+        store,
         n,
         m,
         g,
@@ -93,13 +81,7 @@ fn change_units(
 
 // A change of the file of `object`, whose card counts `allocated` blocks: 9 to 16, or 0 and the store as the rules leave it.
 pub fn change_file(
-    image: &mut [u8],
-    head: &mut [u8],
-    cards: &mut [u8],
-    extents: &mut [u8],
-    groups: &mut [u8],
-    used: &mut [u8],
-    retired: &mut [u8],
+    store: &mut Store<'_>,
     limit: usize,
     object: u64,
     change: Change,
@@ -109,8 +91,8 @@ pub fn change_file(
     nanoseconds: u64,
     units: &[u64],
 ) -> u32
-    requires { ChangeReady (lent image.old head.old cards.old extents.old groups.old used.old retired.old) object change bytes.now allocated seconds nanoseconds units.now }
-    ensures { numbered result (lent image.new head.new cards.new extents.new groups.new used.new retired.new) ≡ changed limit (lent image.old head.old cards.old extents.old groups.old used.old retired.old) object change bytes.now allocated seconds nanoseconds units.now }
+    requires { ChangeReady (store_of store.old) object change bytes.now allocated seconds nanoseconds units.now }
+    ensures { numbered result (store_of store.new) ≡ changed limit (store_of store.old) object change bytes.now allocated seconds nanoseconds units.now }
 {
     let h = format::head::decode_head(head);
     let uuid = h.uuid;
@@ -122,13 +104,7 @@ pub fn change_file(
     let k = units.len();
     let most = UNIT_BLOCKS * k;
     change_units(
-        image,
-        head,
-        cards,
-        extents,
-        groups,
-        used,
-        retired,
+        store,
         h.cards as usize,
         h.extents as usize,
         h.groups as usize,

@@ -14,12 +14,12 @@ use Rattle.file.specs.Tests.{write_number, grow_number}
 
 -- too many seconds
 pub late-seconds : (s n : ℕ) → most_seconds < s → true ≡ time_wrong (record { seconds = s; nanoseconds = n })
-unfolding time_wrong ◌||◌
+unfolding time_wrong
 late-seconds s n h = rw (lt-ltb most_seconds s h) refl
 
 -- or nanoseconds
 pub late-part : (s n : ℕ) → s ≤ most_seconds → leb nanoseconds_bound n ≡ time_wrong (record { seconds = s; nanoseconds = n })
-unfolding time_wrong ◌||◌
+unfolding time_wrong
 late-part s n h = rw (le-ltb most_seconds s h) refl
 
 module _ (end : ℕ) (time : Time) where

@@ -5,7 +5,7 @@ ghost use Rattle.rules.specs.Head.{head_bytes};
 ghost use Rattle.rules.specs.Card.{card_bytes, decode_card};
 ghost use Rattle.rules.specs.Extent.{extent_bytes};
 ghost use Rattle.rules.specs.Book.{decode_book};
-ghost use Rattle.rules.specs.Store.{lent};
+ghost use Rattle.lent.specs.Lent.{store_of, SamePlaces};
 ghost use Rattle.book.specs.Places.{card_is};
 ghost use Rattle.kept.specs.Change.{ChangeFits};
 ghost use Rattle.finish_units.specs.Carry.{UnitsFit};
@@ -16,17 +16,12 @@ ghost use Rattle.file.specs.Room.{RoomFor};
 ghost use Rattle.file.specs.Out.{StoreLeft};
 
 use finish_extents::Exchange;
+use lent::Store;
 
 // The units with their checksums, and then the maps, the extents, the card and the head. The books have `n` cards, `m` extents and `g` groups, and
 // `left` groups afterwards; `flat` blocks are the units' together.
 pub fn carry_out(
-    image: &mut [u8],
-    head: &mut [u8],
-    cards: &mut [u8],
-    extents: &mut [u8],
-    groups: &mut [u8],
-    used: &mut [u8],
-    retired: &mut [u8],
+    store: &mut Store<'_>,
     n: usize,
     m: usize,
     g: usize,
@@ -51,28 +46,29 @@ pub fn carry_out(
     flat: usize,
 )
     requires change_fits { ChangeFits old_size new_size offset (length bytes.now) }
-    requires units_fit { UnitsFit image.old new_size units.now slots.now old.now kept.now blocks.now × (flat ≤ length kept.now) }
-    requires groups_right { GroupsRight g groups.old × UnitsRight object (groups_in g groups.old) units.now }
-    requires room_for { RoomFor object units.now g groups.old }
-    requires new_inside { NewInside (8 * length used.old) (take flat kept.now) (take flat blocks.now) × OldInside (8 * length retired.old) old.now }
-    requires whole_book { WholeBook m extents.old × (e.place + e.cut ≤ m) }
+    requires units_fit { UnitsFit store.old.image.now new_size units.now slots.now old.now kept.now blocks.now × (flat ≤ length kept.now) }
+    requires groups_right { GroupsRight g store.old.groups.now × UnitsRight object (groups_in g store.old.groups.now) units.now }
+    requires room_for { RoomFor object units.now g store.old.groups.now }
+    requires new_inside { NewInside (8 * length store.old.used.now) (take flat kept.now) (take flat blocks.now) × OldInside (8 * length store.old.retired.now) old.now }
+    requires whole_book { WholeBook m store.old.extents.now × (e.place + e.cut ≤ m) }
     requires count_in_bounds { (extent_bytes * e.count ≤ length made.now) × Written e.count made.now }
-    requires count_in_bounds_2 { (extent_bytes * (m - e.cut + e.count) ≤ length extents.old) × (m - e.cut + e.count < 2 ^ 20) }
-    requires cards_right { CardsRight n cards.old × (any (card_is object) (decode_book decode_card card_bytes n cards.old) ≡ true) }
+    requires count_in_bounds_2 { (extent_bytes * (m - e.cut + e.count) ≤ length store.old.extents.now) × (m - e.cut + e.count < 2 ^ 20) }
+    requires cards_right { CardsRight n store.old.cards.now × (any (card_is object) (decode_book decode_card card_bytes n store.old.cards.now) ≡ true) }
     requires new_size_bound { (new_size < 2 ^ 63) × (allocated < 2 ^ 35) × (seconds < 2 ^ 63) × (nanoseconds < 2 ^ 30) }
-    requires head_len { (length head.old ≡ head_bytes) × (hint < 2 ^ 2) × (left < 2 ^ 20) }
-    ensures { StoreLeft (lent image.old head.old cards.old extents.old groups.old used.old retired.old) (lent image.new head.new cards.new extents.new groups.new used.new retired.new) n m g object old_size new_size offset allocated seconds nanoseconds hint left e.place e.cut e.count flat uuid.now bytes.now units.now slots.now old.now kept.now blocks.now made.now }
+    requires head_len { (length store.old.head.now ≡ head_bytes) × (hint < 2 ^ 2) × (left < 2 ^ 20) }
+    ensures same_places { SamePlaces store.old store.new }
+    ensures store_left { StoreLeft (store_of store.old) (store_of store.new) n m g object old_size new_size offset allocated seconds nanoseconds hint left e.place e.cut e.count flat uuid.now bytes.now units.now slots.now old.now kept.now blocks.now made.now }
 {
     super::carry_data::carry_data(
-        image, groups, g, uuid, object, old_size, new_size, offset, bytes, units, slots, old, kept,
+        store.image, store.groups, g, uuid, object, old_size, new_size, offset, bytes, units, slots, old, kept,
         blocks,
     );
     super::carry_books::carry_books(
-        head,
-        cards,
-        extents,
-        used,
-        retired,
+        store.head,
+        store.cards,
+        store.extents,
+        store.used,
+        store.retired,
         n,
         m,
         object,

@@ -12,13 +12,7 @@ use rewrite::Change;
 
 // The file of `object` with this size and count of blocks grown to a larger size: 9 to 16, or 0 and the store as the rules leave it.
 fn grow_to(
-    image: &mut [u8],
-    head: &mut [u8],
-    cards: &mut [u8],
-    extents: &mut [u8],
-    groups: &mut [u8],
-    used: &mut [u8],
-    retired: &mut [u8],
+    store: &mut Store<'_>,
     object: u64,
     old_size: u64,
     allocated: u64,
@@ -26,9 +20,9 @@ fn grow_to(
     seconds: u64,
     nanoseconds: u64,
 ) -> u32
-    requires file_ready { FileReady (lent image.old head.old cards.old extents.old groups.old used.old retired.old) object old_size allocated }
+    requires file_ready { FileReady (store_of store.old) object old_size allocated }
     requires old_size_lt_size { (old_size < size) × (size ≤ most_size) × TimeFits seconds nanoseconds }
-    ensures { numbered result (lent image.new head.new cards.new extents.new groups.new used.new retired.new) ≡ grown (lent image.old head.old cards.old extents.old groups.old used.old retired.old) object old_size allocated size seconds nanoseconds }
+    ensures { numbered result (store_of store.new) ≡ grown (store_of store.old) object old_size allocated size seconds nanoseconds }
 {
     let mut units = [0u64; 1];
     let k = kept::units::grow_units(old_size, &mut units);
@@ -40,13 +34,7 @@ fn grow_to(
         len: 0,
     };
     change::change_file(
-        image,
-        head,
-        cards,
-        extents,
-        groups,
-        used,
-        retired,
+        store,
         MOST_RUNS,
         object,
         change,
@@ -60,20 +48,14 @@ fn grow_to(
 
 // The file of `object` grown to `size` bytes: refusals 3, 5 to 7 and 9 to 16, or 0. Its count is 0.
 pub fn grow_file(
-    image: &mut [u8],
-    head: &mut [u8],
-    cards: &mut [u8],
-    extents: &mut [u8],
-    groups: &mut [u8],
-    used: &mut [u8],
-    retired: &mut [u8],
+    store: &mut Store<'_>,
     object: u64,
     size: u64,
     seconds: u64,
     nanoseconds: u64,
 ) -> u32
-    requires { StoreReady (lent image.old head.old cards.old extents.old groups.old used.old retired.old) }
-    ensures { answered result 0 (lent image.new head.new cards.new extents.new groups.new used.new retired.new) ≡ result_of (lent image.old head.old cards.old extents.old groups.old used.old retired.old) [] (grow_outcome object size (record { seconds = seconds; nanoseconds = nanoseconds }) (lent image.old head.old cards.old extents.old groups.old used.old retired.old)) }
+    requires { StoreReady (store_of store.old) }
+    ensures { answered result 0 (store_of store.new) ≡ result_of (store_of store.old) [] (grow_outcome object size (record { seconds = seconds; nanoseconds = nanoseconds }) (store_of store.old)) }
 {
     let file = super::find::find_file(head, cards, object);
     if !file.known {
@@ -88,13 +70,7 @@ pub fn grow_file(
         return 0;
     }
     grow_to(
-        image,
-        head,
-        cards,
-        extents,
-        groups,
-        used,
-        retired,
+        store,
         object,
         old_size,
         file.allocated,

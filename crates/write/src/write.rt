@@ -24,13 +24,7 @@ fn larger(a: u64, b: u64) -> u64
 
 // A write of bytes that are all taken, to the file of `object` with this size and count of blocks: 9 to 16, or 0 and the store as the rules leave it.
 fn write_taken(
-    image: &mut [u8],
-    head: &mut [u8],
-    cards: &mut [u8],
-    extents: &mut [u8],
-    groups: &mut [u8],
-    used: &mut [u8],
-    retired: &mut [u8],
+    store: &mut Store<'_>,
     limit: usize,
     object: u64,
     size: u64,
@@ -40,9 +34,9 @@ fn write_taken(
     seconds: u64,
     nanoseconds: u64,
 ) -> u32
-    requires file_ready { FileReady (lent image.old head.old cards.old extents.old groups.old used.old retired.old) object size allocated }
+    requires file_ready { FileReady (store_of store.old) object size allocated }
     requires taken { Taken offset bytes.now × TimeFits seconds nanoseconds }
-    ensures { numbered result (lent image.new head.new cards.new extents.new groups.new used.new retired.new) ≡ written limit (lent image.old head.old cards.old extents.old groups.old used.old retired.old) object size allocated offset bytes.now seconds nanoseconds }
+    ensures { numbered result (store_of store.new) ≡ written limit (store_of store.old) object size allocated offset bytes.now seconds nanoseconds }
 {
     let len = bytes.len();
     let new_size = larger(size, offset + len as u64);
@@ -55,13 +49,7 @@ fn write_taken(
         len,
     };
     change::change_file(
-        image,
-        head,
-        cards,
-        extents,
-        groups,
-        used,
-        retired,
+        store,
         limit,
         object,
         change,
@@ -75,13 +63,7 @@ fn write_taken(
 
 // A write to the file of `object` with this size and count of blocks.
 fn write_sized(
-    image: &mut [u8],
-    head: &mut [u8],
-    cards: &mut [u8],
-    extents: &mut [u8],
-    groups: &mut [u8],
-    used: &mut [u8],
-    retired: &mut [u8],
+    store: &mut Store<'_>,
     limit: usize,
     object: u64,
     size: u64,
@@ -91,8 +73,8 @@ fn write_sized(
     seconds: u64,
     nanoseconds: u64,
 ) -> Done
-    requires { FileReady (lent image.old head.old cards.old extents.old groups.old used.old retired.old) object size allocated }
-    ensures { answered result.number result.count (lent image.new head.new cards.new extents.new groups.new used.new retired.new) ≡ result_of (lent image.old head.old cards.old extents.old groups.old used.old retired.old) [] (write_outcome limit object offset bytes.now (record { seconds = seconds; nanoseconds = nanoseconds }) (lent image.old head.old cards.old extents.old groups.old used.old retired.old)) }
+    requires { FileReady (store_of store.old) object size allocated }
+    ensures { answered result.number result.count (store_of store.new) ≡ result_of (store_of store.old) [] (write_outcome limit object offset bytes.now (record { seconds = seconds; nanoseconds = nanoseconds }) (store_of store.old)) }
 {
     if bytes.len() == 0 {
         return Done {
@@ -106,13 +88,7 @@ fn write_sized(
         return Done { number, count: 0 };
     }
     let number = write_taken(
-        image,
-        head,
-        cards,
-        extents,
-        groups,
-        used,
-        retired,
+        store,
         limit,
         object,
         size,
@@ -134,13 +110,7 @@ fn write_sized(
 // A write of `bytes` from `offset` on to the file of `object`: refusals 3, 5, 7 and 9 to 16, or the number of bytes taken. What a unit keeps is held to
 // `limit` runs.
 pub fn write_file(
-    image: &mut [u8],
-    head: &mut [u8],
-    cards: &mut [u8],
-    extents: &mut [u8],
-    groups: &mut [u8],
-    used: &mut [u8],
-    retired: &mut [u8],
+    store: &mut Store<'_>,
     limit: usize,
     object: u64,
     offset: u64,
@@ -148,8 +118,8 @@ pub fn write_file(
     seconds: u64,
     nanoseconds: u64,
 ) -> Done
-    requires { StoreReady (lent image.old head.old cards.old extents.old groups.old used.old retired.old) }
-    ensures { answered result.number result.count (lent image.new head.new cards.new extents.new groups.new used.new retired.new) ≡ result_of (lent image.old head.old cards.old extents.old groups.old used.old retired.old) [] (write_outcome limit object offset bytes.now (record { seconds = seconds; nanoseconds = nanoseconds }) (lent image.old head.old cards.old extents.old groups.old used.old retired.old)) }
+    requires { StoreReady (store_of store.old) }
+    ensures { answered result.number result.count (store_of store.new) ≡ result_of (store_of store.old) [] (write_outcome limit object offset bytes.now (record { seconds = seconds; nanoseconds = nanoseconds }) (store_of store.old)) }
 {
     let file = super::find::find_file(head, cards, object);
     if !file.known {
@@ -159,13 +129,7 @@ pub fn write_file(
         };
     }
     write_sized(
-        image,
-        head,
-        cards,
-        extents,
-        groups,
-        used,
-        retired,
+        store,
         limit,
         object,
         file.size,
