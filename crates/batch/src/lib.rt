@@ -6,15 +6,17 @@
 #![tactic(auto)]
 
 ghost use Rattle.std.specs.Prelude.{◌≡◌, false, ◌/◌, ◌≤◌, length};
-ghost use Rattle.rules.specs.Store.{lent, decode};
+ghost use Rattle.rules.specs.Store.{decode};
 ghost use Rattle.rules.specs.Triples.{triple_bytes, most_triples, decode_triples, lengths_of};
 ghost use Rattle.rules.specs.Batch.{batch_from};
 ghost use Rattle.rules.proofs.PassLaws.{Passes};
+ghost use Rattle.lent.specs.Lent.{store_of, SamePlaces};
 ghost use Rattle.history.proofs.UnsharedLaws.{Unshared};
 ghost use Rattle.intake.specs.Join.{store_number};
 ghost use Rattle.write.specs.Call.{StoreReady, answered};
 ghost use Rattle.batch.specs.Batch.{Wrote, batch_tried};
 
+use lent::Store;
 use triples::TRIPLE_BYTES;
 use write::{Done, MOST_RUNS};
 
@@ -52,7 +54,8 @@ fn write_next(
     nanoseconds: u64,
 ) -> u32
     requires { again ≡ false → Passes (store_of store.old) }
-    ensures { Wrote object offset bytes.now seconds nanoseconds (store_of store.old) result (store_of store.new) }
+    ensures same_places { SamePlaces store.old store.new }
+    ensures done { Wrote object offset bytes.now seconds nanoseconds (store_of store.old) result (store_of store.new) }
 {
     let number = tried(image, head, cards, extents, groups, used, retired, again);
     if number != 0 {
@@ -84,7 +87,8 @@ fn write_all(
     requires unshared { shared ≡ false → Unshared (decode (store_of store.old)) }
     requires list_value { lengths_of (decode_triples list.now) ≡ length bytes.now }
     requires triple_bytes_len_bound { length list.now / triple_bytes ≤ most_triples }
-    ensures { answered result.number result.count (store_of store.new) ≡ batch_from (decode_triples list.now) bytes.now (record { seconds = seconds; nanoseconds = nanoseconds }) 0 (store_of store.old) }
+    ensures same_places { SamePlaces store.old store.new }
+    ensures done { answered result.number result.count (store_of store.new) ≡ batch_from (decode_triples list.now) bytes.now (record { seconds = seconds; nanoseconds = nanoseconds }) 0 (store_of store.old) }
 {
     let n = list.len() / TRIPLE_BYTES;
     let mut again = false;
@@ -127,7 +131,8 @@ pub fn write_batch(
     nanoseconds: u64,
 ) -> Done
     requires { StoreReady (store_of store.old) }
-    ensures { answered result.number result.count (store_of store.new) ≡ batch_tried list.now bytes.now (record { seconds = seconds; nanoseconds = nanoseconds }) (store_of store.old) }
+    ensures same_places { SamePlaces store.old store.new }
+    ensures done { answered result.number result.count (store_of store.new) ≡ batch_tried list.now bytes.now (record { seconds = seconds; nanoseconds = nanoseconds }) (store_of store.old) }
 {
     if batch_tests::batch_wrong(list, bytes) {
         return Done {

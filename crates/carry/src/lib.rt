@@ -5,11 +5,11 @@ ghost use Rattle.std.specs.Prelude.{◌≡◌, [], ℕ, ◌*◌, ◌≤◌, ◌<
 ghost use Rattle.rules.specs.Sizes.{unit_bytes, most_blocks, most_size};
 ghost use Rattle.rules.specs.Extent.{extent_bytes};
 ghost use Rattle.rules.specs.Group.{group_bytes};
-ghost use Rattle.rules.specs.Store.{lent};
 ghost use Rattle.rules.specs.Refusal.{result as result_of};
 ghost use Rattle.rules.specs.Units as rules;
 ghost use Rattle.rules.specs.Rewrite as rewriting;
 ghost use Rattle.rules.specs.Write.{carried_out};
+ghost use Rattle.lent.specs.Lent.{store_of, SamePlaces};
 ghost use Rattle.mapping.specs.Entries.{extents_in, ExtentsRight};
 ghost use Rattle.finish_books.specs.Groups.{groups_in, UnitsRight};
 ghost use Rattle.finish_extents.specs.Stretch.{Planned};
@@ -40,19 +40,18 @@ fn flat_blocks(new_size: u64, units: &[u64]) -> usize
 
 // Whether the books fit where `units` are rewritten, which may be none.
 fn fit_change(
-    extents: &[u8],
+    store: &Store<'_>,
     e: usize,
-    groups: &[u8],
     g: usize,
     object: u64,
     units: &[u64],
     blocks: &[u32],
     made: &mut [u8],
 ) -> Fit
-    requires extents_right { ExtentsRight most_blocks e extents.now × (0 < length units.now → Planned object units.now blocks.now (extents_in e extents.now)) }
-    requires g_in_bounds { (group_bytes * g ≤ length groups.now) × UnitsRight object (groups_in g groups.now) units.now }
+    requires extents_right { ExtentsRight most_blocks e store.now.extents.now × (0 < length units.now → Planned object units.now blocks.now (extents_in e store.now.extents.now)) }
+    requires g_in_bounds { (group_bytes * g ≤ length store.now.groups.now) × UnitsRight object (groups_in g store.now.groups.now) units.now }
     requires extent_bytes_in_bounds { extent_bytes * 290 ≤ length made.old }
-    ensures { Fits object units.now blocks.now g groups.now e extents.now result.number result.groups result.exchange.place result.exchange.cut result.exchange.count made.new }
+    ensures { Fits object units.now blocks.now g store.now.groups.now e store.now.extents.now result.number result.groups result.exchange.place result.exchange.cut result.exchange.count made.new }
 {
     if units.len() == 0 {
         return Fit {
@@ -65,7 +64,7 @@ fn fit_change(
             },
         };
     }
-    finish_fit::fit_books(extents, e, groups, g, object, units, blocks, made)
+    finish_fit::fit_books(store.extents, e, store.groups, g, object, units, blocks, made)
 }
 
 // The units of a plan carried out, or 15 or 16: the arrays have what was looked up of them and what each keeps and is given. `made` has room for the
@@ -92,10 +91,11 @@ pub fn carry_change(
 ) -> u32
     requires carry_ready { CarryReady (store_of store.old) n m g object change bytes.now allocated seconds nanoseconds hint units.now slots.now old.now kept.now blocks.now }
     requires extent_bytes_in_bounds { extent_bytes * 290 ≤ length made.old }
-    ensures { (limit : ℕ) (c : rules.Change) (p : rewriting.Progress) (k : rewriting.Plan) → CarryFor limit (store_of store.old) c p k uuid.now object change bytes.now allocated hint units.now slots.now old.now kept.now blocks.now → numbered result (store_of store.new) ≡ result_of (store_of store.old) [] (carried_out 0 c (record { seconds = seconds; nanoseconds = nanoseconds }) (store_of store.old) k) }
+    ensures same_places { SamePlaces store.old store.new }
+    ensures carried { (limit : ℕ) (c : rules.Change) (p : rewriting.Progress) (k : rewriting.Plan) → CarryFor limit (store_of store.old) c p k uuid.now object change bytes.now allocated hint units.now slots.now old.now kept.now blocks.now → numbered result (store_of store.new) ≡ result_of (store_of store.old) [] (carried_out 0 c (record { seconds = seconds; nanoseconds = nanoseconds }) (store_of store.old) k) }
 {
     let flat = flat_blocks(change.new_size, units);
-    let fit = fit_change(store.extents, m, store.groups, g, object, units, &blocks[..flat], made);
+    let fit = fit_change(store, m, g, object, units, &blocks[..flat], made);
     if fit.number != 0 {
         return fit.number;
     }

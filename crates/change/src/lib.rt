@@ -5,11 +5,12 @@
 
 ghost use Rattle.std.specs.Prelude.{◌≡◌, ◌*◌, ◌≤◌, length};
 ghost use Rattle.rules.specs.Extent.{extent_bytes};
-ghost use Rattle.rules.specs.Store.{lent};
+ghost use Rattle.lent.specs.Lent.{store_of, SamePlaces};
 ghost use Rattle.file.specs.Change.{numbered};
 ghost use Rattle.change.specs.Change.{ChangeReady, HeadSays, ArraysEach, changed};
 
 use format::sizes::UNIT_BLOCKS;
+use lent::Store;
 use rewrite::Change;
 
 // Units of a change at most: those that a write of the most bytes touches, and the old tail unit before them.
@@ -46,7 +47,8 @@ fn change_units(
     requires change_ready { ChangeReady (store_of store.old) object change bytes.now allocated seconds nanoseconds units.now }
     requires head_says { HeadSays (store_of store.old) n m g hint uuid.now }
     requires arrays_each { ArraysEach units.now slots.old old.old kept.old blocks.old × (extent_bytes * 290 ≤ length made.old) }
-    ensures { numbered result (store_of store.new) ≡ changed limit (store_of store.old) object change bytes.now allocated seconds nanoseconds units.now }
+    ensures same_places { SamePlaces store.old store.new }
+    ensures changed { numbered result (store_of store.new) ≡ changed limit (store_of store.old) object change bytes.now allocated seconds nanoseconds units.now }
 {
     let plan = file::plan::plan_change(
         image, uuid, extents, m, groups, g, used, limit, object, change, units, slots, old, kept,
@@ -92,7 +94,8 @@ pub fn change_file(
     units: &[u64],
 ) -> u32
     requires { ChangeReady (store_of store.old) object change bytes.now allocated seconds nanoseconds units.now }
-    ensures { numbered result (store_of store.new) ≡ changed limit (store_of store.old) object change bytes.now allocated seconds nanoseconds units.now }
+    ensures same_places { SamePlaces store.old store.new }
+    ensures changed { numbered result (store_of store.new) ≡ changed limit (store_of store.old) object change bytes.now allocated seconds nanoseconds units.now }
 {
     let h = format::head::decode_head(head);
     let uuid = h.uuid;

@@ -1,12 +1,13 @@
 // The call grow, past refusals 1 and 2.
 ghost use Rattle.std.specs.Prelude.{◌≡◌, [], ◌≤◌, ◌<◌};
 ghost use Rattle.rules.specs.Sizes.{most_size};
-ghost use Rattle.rules.specs.Store.{lent};
 ghost use Rattle.rules.specs.Refusal.{result as result_of};
 ghost use Rattle.rules.specs.Write.{grow_outcome};
+ghost use Rattle.lent.specs.Lent.{store_of, SamePlaces};
 ghost use Rattle.file.specs.Change.{numbered};
 ghost use Rattle.write.specs.Call.{StoreReady, FileReady, TimeFits, answered, grown};
 
+use lent::Store;
 use super::MOST_RUNS;
 use rewrite::Change;
 
@@ -22,7 +23,8 @@ fn grow_to(
 ) -> u32
     requires file_ready { FileReady (store_of store.old) object old_size allocated }
     requires old_size_lt_size { (old_size < size) × (size ≤ most_size) × TimeFits seconds nanoseconds }
-    ensures { numbered result (store_of store.new) ≡ grown (store_of store.old) object old_size allocated size seconds nanoseconds }
+    ensures same_places { SamePlaces store.old store.new }
+    ensures grown { numbered result (store_of store.new) ≡ grown (store_of store.old) object old_size allocated size seconds nanoseconds }
 {
     let mut units = [0u64; 1];
     let k = kept::units::grow_units(old_size, &mut units);
@@ -55,7 +57,8 @@ pub fn grow_file(
     nanoseconds: u64,
 ) -> u32
     requires { StoreReady (store_of store.old) }
-    ensures { answered result 0 (store_of store.new) ≡ result_of (store_of store.old) [] (grow_outcome object size (record { seconds = seconds; nanoseconds = nanoseconds }) (store_of store.old)) }
+    ensures same_places { SamePlaces store.old store.new }
+    ensures grown { answered result 0 (store_of store.new) ≡ result_of (store_of store.old) [] (grow_outcome object size (record { seconds = seconds; nanoseconds = nanoseconds }) (store_of store.old)) }
 {
     let file = super::find::find_file(head, cards, object);
     if !file.known {

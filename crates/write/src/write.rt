@@ -1,11 +1,12 @@
 // The call write, past refusals 1 and 2.
 ghost use Rattle.std.specs.Prelude.{◌≡◌, [], max};
-ghost use Rattle.rules.specs.Store.{lent};
 ghost use Rattle.rules.specs.Refusal.{result as result_of};
 ghost use Rattle.rules.specs.Write.{write_outcome};
+ghost use Rattle.lent.specs.Lent.{store_of, SamePlaces};
 ghost use Rattle.file.specs.Change.{numbered};
 ghost use Rattle.write.specs.Call.{StoreReady, FileReady, Taken, TimeFits, answered, written};
 
+use lent::Store;
 use super::Done;
 use rewrite::Change;
 
@@ -36,7 +37,8 @@ fn write_taken(
 ) -> u32
     requires file_ready { FileReady (store_of store.old) object size allocated }
     requires taken { Taken offset bytes.now × TimeFits seconds nanoseconds }
-    ensures { numbered result (store_of store.new) ≡ written limit (store_of store.old) object size allocated offset bytes.now seconds nanoseconds }
+    ensures same_places { SamePlaces store.old store.new }
+    ensures written { numbered result (store_of store.new) ≡ written limit (store_of store.old) object size allocated offset bytes.now seconds nanoseconds }
 {
     let len = bytes.len();
     let new_size = larger(size, offset + len as u64);
@@ -74,7 +76,8 @@ fn write_sized(
     nanoseconds: u64,
 ) -> Done
     requires { FileReady (store_of store.old) object size allocated }
-    ensures { answered result.number result.count (store_of store.new) ≡ result_of (store_of store.old) [] (write_outcome limit object offset bytes.now (record { seconds = seconds; nanoseconds = nanoseconds }) (store_of store.old)) }
+    ensures same_places { SamePlaces store.old store.new }
+    ensures written { answered result.number result.count (store_of store.new) ≡ result_of (store_of store.old) [] (write_outcome limit object offset bytes.now (record { seconds = seconds; nanoseconds = nanoseconds }) (store_of store.old)) }
 {
     if bytes.len() == 0 {
         return Done {
@@ -119,7 +122,8 @@ pub fn write_file(
     nanoseconds: u64,
 ) -> Done
     requires { StoreReady (store_of store.old) }
-    ensures { answered result.number result.count (store_of store.new) ≡ result_of (store_of store.old) [] (write_outcome limit object offset bytes.now (record { seconds = seconds; nanoseconds = nanoseconds }) (store_of store.old)) }
+    ensures same_places { SamePlaces store.old store.new }
+    ensures written { answered result.number result.count (store_of store.new) ≡ result_of (store_of store.old) [] (write_outcome limit object offset bytes.now (record { seconds = seconds; nanoseconds = nanoseconds }) (store_of store.old)) }
 {
     let file = super::find::find_file(head, cards, object);
     if !file.known {

@@ -18,8 +18,8 @@ fit_change-fit-requires c =
     let f = c.flat_blocks-flat.ensures in
     record { extents_right = extents-asked p.carry_ready _ f; g_in_bounds = groups-asked p.carry_ready; extent_bytes_in_bounds = p.extent_bytes_in_bounds }
 
-pub returns-then-fit-ne0 : goal.returns-then-fit-ne0
-returns-then-fit-ne0 c =
+pub returns-then-fit-ne0-clause-carried : goal.returns-then-fit-ne0-clause-carried
+returns-then-fit-ne0-clause-carried c =
     λ limit d p k y.
     change-refused c.requires.carry_ready _ c.flat_blocks-flat.ensures c.fit_change-fit.ensures y c.if-fit-ne0.true
 
@@ -28,7 +28,7 @@ carry_out-requires c =
     let p = c.requires in
     record { change_fits = (out-asked p.carry_ready _ c.flat_blocks-flat.ensures c.fit_change-fit.ensures c.if-fit-ne0.false (omega (arith, p.extent_bytes_in_bounds, c.fit_change-fit.auto.made))).0; units_fit = (out-asked p.carry_ready _ c.flat_blocks-flat.ensures c.fit_change-fit.ensures c.if-fit-ne0.false (omega (arith, p.extent_bytes_in_bounds, c.fit_change-fit.auto.made))).1.0; groups_right = (out-asked p.carry_ready _ c.flat_blocks-flat.ensures c.fit_change-fit.ensures c.if-fit-ne0.false (omega (arith, p.extent_bytes_in_bounds, c.fit_change-fit.auto.made))).1.1.0; room_for = (out-asked p.carry_ready _ c.flat_blocks-flat.ensures c.fit_change-fit.ensures c.if-fit-ne0.false (omega (arith, p.extent_bytes_in_bounds, c.fit_change-fit.auto.made))).1.1.1.0; new_inside = (out-asked p.carry_ready _ c.flat_blocks-flat.ensures c.fit_change-fit.ensures c.if-fit-ne0.false (omega (arith, p.extent_bytes_in_bounds, c.fit_change-fit.auto.made))).1.1.1.1.0; whole_book = (out-asked p.carry_ready _ c.flat_blocks-flat.ensures c.fit_change-fit.ensures c.if-fit-ne0.false (omega (arith, p.extent_bytes_in_bounds, c.fit_change-fit.auto.made))).1.1.1.1.1.0; count_in_bounds = (out-asked p.carry_ready _ c.flat_blocks-flat.ensures c.fit_change-fit.ensures c.if-fit-ne0.false (omega (arith, p.extent_bytes_in_bounds, c.fit_change-fit.auto.made))).1.1.1.1.1.1.0; count_in_bounds_2 = (out-asked p.carry_ready _ c.flat_blocks-flat.ensures c.fit_change-fit.ensures c.if-fit-ne0.false (omega (arith, p.extent_bytes_in_bounds, c.fit_change-fit.auto.made))).1.1.1.1.1.1.1.0; cards_right = (out-asked p.carry_ready _ c.flat_blocks-flat.ensures c.fit_change-fit.ensures c.if-fit-ne0.false (omega (arith, p.extent_bytes_in_bounds, c.fit_change-fit.auto.made))).1.1.1.1.1.1.1.1.0; new_size_bound = (out-asked p.carry_ready _ c.flat_blocks-flat.ensures c.fit_change-fit.ensures c.if-fit-ne0.false (omega (arith, p.extent_bytes_in_bounds, c.fit_change-fit.auto.made))).1.1.1.1.1.1.1.1.1.0; head_len = (out-asked p.carry_ready _ c.flat_blocks-flat.ensures c.fit_change-fit.ensures c.if-fit-ne0.false (omega (arith, p.extent_bytes_in_bounds, c.fit_change-fit.auto.made))).1.1.1.1.1.1.1.1.1.1 }
 
-pub returns : goal.returns
-returns c =
+pub returns-clause-carried : goal.returns-clause-carried
+returns-clause-carried c =
     λ limit d p k y.
-    change-carried c.requires.carry_ready _ c.flat_blocks-flat.ensures c.fit_change-fit.ensures y c.if-fit-ne0.false c.carry_out.ensures
+    change-carried c.requires.carry_ready _ c.flat_blocks-flat.ensures c.fit_change-fit.ensures y c.if-fit-ne0.false c.carry_out.ensures.store_left
