@@ -20,8 +20,8 @@ ghost use Rattle.carry.specs.Carry.{CarryReady, CarryFor};
 
 use finish_extents::Exchange;
 use finish_fit::Fit;
-use lent::Store;
 use format::sizes::{BLOCK_BYTES, UNIT_BLOCKS};
+use lent::Store;
 use rewrite::Change;
 
 // The blocks of units side by side: every unit but the last has all of its own.
@@ -64,7 +64,16 @@ fn fit_change(
             },
         };
     }
-    finish_fit::fit_books(store.extents, e, store.groups, g, object, units, blocks, made)
+    finish_fit::fit_books(
+        store.extents,
+        e,
+        store.groups,
+        g,
+        object,
+        units,
+        blocks,
+        made,
+    )
 }
 
 // The units of a plan carried out, or 15 or 16: the arrays have what was looked up of them and what each keeps and is given. `made` has room for the

@@ -51,8 +51,7 @@ fn change_units(
     ensures changed { numbered result (store_of store.new) ≡ changed limit (store_of store.old) object change bytes.now allocated seconds nanoseconds units.now }
 {
     let plan = file::plan::plan_change(
-        image, uuid, extents, m, groups, g, used, limit, object, change, units, slots, old, kept,
-        blocks, hint, allocated,
+        store, uuid, m, g, limit, object, change, units, slots, old, kept, blocks, hint, allocated,
     );
     if plan.number != 0 {
         return plan.number;
@@ -97,7 +96,7 @@ pub fn change_file(
     ensures same_places { SamePlaces store.old store.new }
     ensures changed { numbered result (store_of store.new) ≡ changed limit (store_of store.old) object change bytes.now allocated seconds nanoseconds units.now }
 {
-    let h = format::head::decode_head(head);
+    let h = store.decode_head();
     let uuid = h.uuid;
     let mut slots = [0u64; MOST_UNITS];
     let mut old = [0u32; MOST_BLOCKS];

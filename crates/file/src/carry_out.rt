@@ -60,7 +60,19 @@ pub fn carry_out(
     ensures store_left { StoreLeft (store_of store.old) (store_of store.new) n m g object old_size new_size offset allocated seconds nanoseconds hint left e.place e.cut e.count flat uuid.now bytes.now units.now slots.now old.now kept.now blocks.now made.now }
 {
     super::carry_data::carry_data(
-        store.image, store.groups, g, uuid, object, old_size, new_size, offset, bytes, units, slots, old, kept,
+        store.image,
+        store.groups,
+        g,
+        uuid,
+        object,
+        old_size,
+        new_size,
+        offset,
+        bytes,
+        units,
+        slots,
+        old,
+        kept,
         blocks,
     );
     super::carry_books::carry_books(

@@ -25,26 +25,5 @@ change_units-requires c =
     let pre = c.requires in
     record { change_ready = pre; head_says = head-says _ _ c.decode_head-h.ensures.0; arrays_each = (arrays-room _ pre.units.few, made-room) }
 
-pub shape_of-image : goal.shape_of-image
-shape_of-image c = omega (arith, c.change_units.auto.image)
-
-pub shape_of-head : goal.shape_of-head
-shape_of-head c = omega (arith, c.change_units.auto.head)
-
-pub shape_of-cards : goal.shape_of-cards
-shape_of-cards c = omega (arith, c.change_units.auto.cards)
-
-pub shape_of-extents : goal.shape_of-extents
-shape_of-extents c = omega (arith, c.change_units.auto.extents)
-
-pub shape_of-groups : goal.shape_of-groups
-shape_of-groups c = omega (arith, c.change_units.auto.groups)
-
-pub shape_of-used : goal.shape_of-used
-shape_of-used c = omega (arith, c.change_units.auto.used)
-
-pub shape_of-retired : goal.shape_of-retired
-shape_of-retired c = omega (arith, c.change_units.auto.retired)
-
-pub returns : goal.returns
-returns c = c.change_units.ensures
+pub returns-clause-changed : goal.returns-clause-changed
+returns-clause-changed c = c.change_units.ensures.changed

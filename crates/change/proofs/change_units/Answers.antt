@@ -10,8 +10,8 @@ plan_change-plan-requires c =
     let pre = c.requires in
     record { plan_ready = plan-ready _ pre.change_ready.passes _ _ pre.head_says.extents pre.head_says.groups; change_fits = pre.change_ready.fits; plan_room = plan-room _ _ _ _ _ _ _ _ pre.change_ready _ _ _ _ pre.arrays_each.0; allocated_le_most_allocated = pre.change_ready.most }
 
-pub returns-then-plan-ne0 : goal.returns-then-plan-ne0
-returns-then-plan-ne0 c =
+pub returns-then-plan-ne0-clause-changed : goal.returns-then-plan-ne0-clause-changed
+returns-then-plan-ne0-clause-changed c =
     let pre = c.requires in
     units-refused _ _ _ _ _ _ _ _ pre.change_ready _ _ _ _ _ pre.head_says _ _ _ _ _ _ (c.plan_change-plan.ensures.change_planned _ _ (change-for _ _ _ _ _ _ _ _ pre.change_ready _ _ _ _ _ pre.head_says)) c.if-plan-ne0.true
 
@@ -79,10 +79,10 @@ shape_of-kept c = omega (arith, c.plan_change-plan.auto.kept)
 pub shape_of-blocks : goal.shape_of-blocks
 shape_of-blocks c = omega (arith, c.plan_change-plan.auto.blocks)
 
-pub returns : goal.returns
-returns c =
+pub returns-clause-changed : goal.returns-clause-changed
+returns-clause-changed c =
     let pre = c.requires in
     let plan = c.plan_change-plan in
     change-carried' _ _ _ _ _ _ _ _ pre.change_ready _ _ _ _ _ pre.head_says _ _ _ _ _ _ (c.plan_change-plan.ensures.change_planned _ _ (change-for _ _ _ _ _ _ _ _ pre.change_ready _ _ _ _ _ pre.head_says))
     (arrays-after pre.arrays_each.0 (omega (arith, c.plan_change-plan.auto.slots)) (omega (arith, c.plan_change-plan.auto.old)) (omega (arith, c.plan_change-plan.auto.kept)) (omega (arith, c.plan_change-plan.auto.blocks)))
-    plan.ensures.blocks_of plan.ensures.skip_in_bounds.1 c.if-plan-ne0.false _ _ _ _ _ refl refl refl refl refl _ _ c.carry_change.ensures
+    plan.ensures.blocks_of plan.ensures.skip_in_bounds.1 c.if-plan-ne0.false _ _ _ _ _ refl refl refl refl refl _ _ c.carry_change.ensures.carried
