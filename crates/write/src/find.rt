@@ -6,6 +6,7 @@ ghost use Rattle.write.specs.Call.{FileFound};
 
 use book::Found;
 use format::card::CARD_BYTES;
+use lent::Store;
 
 // Whether there is such a file, and if so its size and the blocks that its card counts.
 #[derive(Clone, Copy)]
@@ -16,14 +17,14 @@ pub struct File {
 }
 
 // The file of `object` among the cards that the head counts.
-pub fn find_file(head: &[u8], cards: &[u8], object: u64) -> File
-    requires { (length head.now ≡ head_bytes) × (card_bytes * (decode_head head.now).cards ≤ length cards.now) }
-    ensures { FileFound head.now cards.now object result.known result.size result.allocated }
+pub fn find_file(store: &Store<'_>, object: u64) -> File
+    requires { (length store.now.head.now ≡ head_bytes) × (card_bytes * (decode_head store.now.head.now).cards ≤ length store.now.cards.now) }
+    ensures { FileFound store.now.head.now store.now.cards.now object result.known result.size result.allocated }
 {
-    let h = format::head::decode_head(head);
-    match book::find::find_card(cards, h.cards as usize, object) {
+    let h = store.decode_head();
+    match book::find::find_card(store.cards, h.cards as usize, object) {
         Found::At(i) => {
-            let card = format::card::decode_card(cards, CARD_BYTES * i);
+            let card = format::card::decode_card(store.cards, CARD_BYTES * i);
             File {
                 known: true,
                 size: card.size,

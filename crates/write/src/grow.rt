@@ -7,8 +7,8 @@ ghost use Rattle.lent.specs.Lent.{store_of, SamePlaces};
 ghost use Rattle.file.specs.Change.{numbered};
 ghost use Rattle.write.specs.Call.{StoreReady, FileReady, TimeFits, answered, grown};
 
-use lent::Store;
 use super::MOST_RUNS;
+use lent::Store;
 use rewrite::Change;
 
 // The file of `object` with this size and count of blocks grown to a larger size: 9 to 16, or 0 and the store as the rules leave it.
@@ -60,7 +60,7 @@ pub fn grow_file(
     ensures same_places { SamePlaces store.old store.new }
     ensures grown { answered result 0 (store_of store.new) ≡ result_of (store_of store.old) [] (grow_outcome object size (record { seconds = seconds; nanoseconds = nanoseconds }) (store_of store.old)) }
 {
-    let file = super::find::find_file(head, cards, object);
+    let file = super::find::find_file(store, object);
     if !file.known {
         return 3;
     }

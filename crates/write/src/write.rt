@@ -6,8 +6,8 @@ ghost use Rattle.lent.specs.Lent.{store_of, SamePlaces};
 ghost use Rattle.file.specs.Change.{numbered};
 ghost use Rattle.write.specs.Call.{StoreReady, FileReady, Taken, TimeFits, answered, written};
 
-use lent::Store;
 use super::Done;
+use lent::Store;
 use rewrite::Change;
 
 // Units of a write at most: those that the most bytes touch, and the old tail unit before them.
@@ -125,7 +125,7 @@ pub fn write_file(
     ensures same_places { SamePlaces store.old store.new }
     ensures written { answered result.number result.count (store_of store.new) ≡ result_of (store_of store.old) [] (write_outcome limit object offset bytes.now (record { seconds = seconds; nanoseconds = nanoseconds }) (store_of store.old)) }
 {
-    let file = super::find::find_file(head, cards, object);
+    let file = super::find::find_file(store, object);
     if !file.known {
         return Done {
             number: 3,

@@ -12,5 +12,5 @@ slice_bounds-change_file-end-2 c = sym (length-take-le _ _ (omega (arith, c.grow
 pub change_file-requires : goal.change_file-requires
 change_file-requires c = let p = c.requires in grow-ready _ _ _ _ _ _ _ _ c.grow_units-k.ensures.units_after p.file_ready p.old_size_lt_size.0 p.old_size_lt_size.1 p.old_size_lt_size.2
 
-pub returns : goal.returns
-returns c = grow-done _ _ _ _ _ _ _ _ c.grow_units-k.ensures.units_after _ _ _ c.change_file.ensures refl
+pub returns-clause-grown : goal.returns-clause-grown
+returns-clause-grown c = grow-done _ _ _ _ _ _ _ _ c.grow_units-k.ensures.units_after _ _ _ c.change_file.ensures.changed refl

@@ -12,5 +12,5 @@ slice_bounds-change_file-end c = sym (length-take-le _ _ (omega (arith, c.write_
 pub change_file-requires : goal.change_file-requires
 change_file-requires c = write-ready _ _ _ _ _ _ _ _ _ _ c.larger-new_size.ensures c.write_units-k.ensures.units_after c.requires.file_ready c.requires.taken.0 c.requires.taken.1
 
-pub returns : goal.returns
-returns c = write_done _ _ _ _ _ _ _ _ _ _ c.larger-new_size.ensures c.write_units-k.ensures.units_after _ _ _ c.change_file.ensures
+pub returns-clause-written : goal.returns-clause-written
+returns-clause-written c = write_done _ _ _ _ _ _ _ _ _ _ c.larger-new_size.ensures c.write_units-k.ensures.units_after _ _ _ c.change_file.ensures.changed
