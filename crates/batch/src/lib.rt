@@ -6,13 +6,14 @@
 #![tactic(auto)]
 
 ghost use Rattle.std.specs.Prelude.{◌≡◌, false, ◌/◌, ◌≤◌, length};
-ghost use Rattle.rules.specs.Store.{decode};
+ghost use Rattle.rules.specs.Store.{StoreBytes, decode};
 ghost use Rattle.rules.specs.Triples.{triple_bytes, most_triples, decode_triples, lengths_of};
 ghost use Rattle.rules.specs.Batch.{batch_from};
 ghost use Rattle.rules.proofs.PassLaws.{Passes};
 ghost use Rattle.lent.specs.Lent.{store_of, SamePlaces};
 ghost use Rattle.history.proofs.UnsharedLaws.{Unshared};
 ghost use Rattle.intake.specs.Join.{store_number};
+ghost use Rattle.batch_tests.specs.Tests.{extents_counted, ExtentsPlaced, TellsAgain};
 ghost use Rattle.write.specs.Call.{StoreReady, answered};
 ghost use Rattle.batch.specs.Batch.{Wrote, batch_tried};
 
@@ -24,23 +25,22 @@ use write::{Done, MOST_RUNS};
 const BAD_BATCH: u32 = 18;
 
 // The number of refusal 1 or 2, or 0: tried if asked for; where they are not, the store passes them.
-fn tried(
-    image: &[u8],
-    head: &[u8],
-    cards: &[u8],
-    extents: &[u8],
-    groups: &[u8],
-    used: &[u8],
-    retired: &[u8],
-    again: bool,
-) -> u32
-    requires { again ≡ false → Passes (lent image.now head.now cards.now extents.now groups.now used.now retired.now) }
-    ensures { result ≡ store_number (lent image.now head.now cards.now extents.now groups.now used.now retired.now) }
+fn tried(store: &Store<'_>, again: bool) -> u32
+    requires { again ≡ false → Passes (store_of store.now) }
+    ensures { result ≡ store_number (store_of store.now) }
 {
     if !again {
         return 0;
     }
-    intake::refused(image, head, cards, extents, groups, used, retired)
+    intake::refused(
+        store.image,
+        store.head,
+        store.cards,
+        store.extents,
+        store.groups,
+        store.used,
+        store.retired,
+    )
 }
 
 // One write as a call: the number of its refusal, or 0. Refusals 1 and 2 are tried if asked for.
@@ -53,11 +53,12 @@ fn write_next(
     seconds: u64,
     nanoseconds: u64,
 ) -> u32
-    requires { again ≡ false → Passes (store_of store.old) }
+    requires tested { again ≡ false → Passes (store_of store.old) }
+    requires lent_bytes { StoreBytes (store_of store.old) }
     ensures same_places { SamePlaces store.old store.new }
     ensures done { Wrote object offset bytes.now seconds nanoseconds (store_of store.old) result (store_of store.new) }
 {
-    let number = tried(image, head, cards, extents, groups, used, retired, again);
+    let number = tried(store, again);
     if number != 0 {
         return number;
     }
@@ -122,6 +123,14 @@ fn write_all(
     }
 }
 
+// Whether refusals 1 and 2 are tried again before each write of the list but the first.
+fn tests_again(store: &Store<'_>, list: &[u8]) -> bool
+    requires { ExtentsPlaced store.now.head.now store.now.extents.now }
+    ensures { TellsAgain result list.now (extents_counted store.now.head.now store.now.extents.now) }
+{
+    batch_tests::tests_again(store.head, store.extents, list)
+}
+
 // A batch of writes: refusal 18, or how many were done and the number of what stopped them or 0.
 pub fn write_batch(
     store: &mut Store<'_>,
@@ -140,13 +149,6 @@ pub fn write_batch(
             count: 0,
         };
     }
-    let shared = batch_tests::tests_again(head, extents, list);
-    write_all(
-        store,
-        shared,
-        list,
-        bytes,
-        seconds,
-        nanoseconds,
-    )
+    let shared = tests_again(store, list);
+    write_all(store, shared, list, bytes, seconds, nanoseconds)
 }

@@ -1,3 +1,4 @@
+use Rattle.lent.proofs.PlaceLaws.{same-places}
 use mathlib.Core.Path.{refl, ◌∙◌}
 use native.Mathlib.Omega.{arith}
 use Rattle.batch.proofs.BatchLaws.{between_first, bytes-there, between-stopped, between_more, between-last}
@@ -5,7 +6,7 @@ use borrow.Author.Rules.{rules}
 use Rattle.batch.proofs.write_all.Goals as goal
 
 pub loop-i-init : goal.loop-i-init
-loop-i-init c = let p = c.requires in (omega arith, (refl, refl, refl, refl, refl, refl, refl), between_first _ _ _ _ _ _ p.store_ready p.unshared p.list_value)
+loop-i-init c = let p = c.requires in (omega arith, record { image = refl; head = refl; cards = refl; extents = refl; groups = refl; used = refl; retired = refl }, between_first _ _ _ _ _ _ p.store_ready p.unshared p.list_value)
 
 pub overflow_add-end : goal.overflow_add-end
 overflow_add-end c = record { fits = omega (arith, bytes-there _ _ _ _ _ _ _ _ _ _ _ refl c.loop-i.invariant.2 _ c.loop-i-test.true c.triple_at-t.ensures) }
@@ -14,10 +15,10 @@ pub slice_bounds-write_next-end : goal.slice_bounds-write_next-end
 slice_bounds-write_next-end c = bytes-there _ _ _ _ _ _ _ _ _ _ _ refl c.loop-i.invariant.2 _ c.loop-i-test.true c.triple_at-t.ensures
 
 pub write_next-number-requires : goal.write_next-number-requires
-write_next-number-requires c = c.loop-i.invariant.2.tested
+write_next-number-requires c = let v = c.loop-i.invariant.2 in record { tested = v.tested; lent_bytes = v.lent_bytes }
 
-pub returns-then-number-ne0 : goal.returns-then-number-ne0
-returns-then-number-ne0 c = between-stopped _ _ _ _ _ _ _ _ _ _ _ refl c.loop-i.invariant.2 _ c.loop-i-test.true c.triple_at-t.ensures _ _ c.write_next-number.ensures c.if-number-ne0.true
+pub returns-then-number-ne0-clause-done : goal.returns-then-number-ne0-clause-done
+returns-then-number-ne0-clause-done c = between-stopped _ _ _ _ _ _ _ _ _ _ _ refl c.loop-i.invariant.2 _ c.loop-i-test.true c.triple_at-t.ensures _ _ c.write_next-number.ensures.done c.if-number-ne0.true
 
 pub overflow_add-i : goal.overflow_add-i
 overflow_add-i c = record { fits = omega (arith, c.loop-i-test.true, c.requires.triple_bytes_len_bound) }
@@ -29,12 +30,12 @@ loop-i-preserved c =
     let h = c.write_next-number in
     let f = c.ranges in
     let n =
-    between_more _ _ _ _ _ _ _ _ _ _ _ refl v.2 _ t c.triple_at-t.ensures _ _ h.ensures
+    between_more _ _ _ _ _ _ _ _ _ _ _ refl v.2 _ t c.triple_at-t.ensures _ _ h.ensures.done
     (search rules) (search rules) (f.seconds.fits, f.nanoseconds.fits) c.if-number-ne0.false in (
       omega (arith, t),
-      (h.auto.image ∙ v.1.0, h.auto.head ∙ v.1.1, h.auto.cards ∙ v.1.2, h.auto.extents ∙ v.1.3, h.auto.groups ∙ v.1.4, h.auto.used ∙ v.1.5, h.auto.retired ∙ v.1.6),
+      same-places v.1 h.ensures.same_places,
       record { room = n.room; lent_bytes = n.lent_bytes; tested = n.tested; safe = n.safe; same = n.same },
     )
 
-pub returns : goal.returns
-returns c = between-last _ _ _ _ _ _ _ _ _ _ _ refl c.loop-i.invariant.2 c.loop-i.invariant.0 c.loop-i-test.false
+pub returns-clause-done : goal.returns-clause-done
+returns-clause-done c = between-last _ _ _ _ _ _ _ _ _ _ _ refl c.loop-i.invariant.2 c.loop-i.invariant.0 c.loop-i-test.false
