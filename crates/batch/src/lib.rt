@@ -10,6 +10,7 @@ ghost use Rattle.rules.specs.Store.{StoreBytes, decode};
 ghost use Rattle.rules.specs.Triples.{triple_bytes, most_triples, decode_triples, lengths_of};
 ghost use Rattle.rules.specs.Batch.{batch_from};
 ghost use Rattle.rules.proofs.PassLaws.{Passes};
+ghost use Rattle.format.specs.Refusals.{number_in};
 ghost use Rattle.lent.specs.Lent.{store_of, SamePlaces};
 ghost use Rattle.history.proofs.UnsharedLaws.{Unshared};
 ghost use Rattle.intake.specs.Join.{store_number};
@@ -17,6 +18,7 @@ ghost use Rattle.batch_tests.specs.Tests.{extents_counted, ExtentsPlaced, TellsA
 ghost use Rattle.write.specs.Call.{StoreReady, answered};
 ghost use Rattle.batch.specs.Batch.{Wrote, batch_tried};
 
+use format::refusal::Refusal;
 use lent::Store;
 use triples::TRIPLE_BYTES;
 use write::{Done, MOST_RUNS};
@@ -24,13 +26,13 @@ use write::{Done, MOST_RUNS};
 // The number of refusal 18.
 const BAD_BATCH: u32 = 18;
 
-// The number of refusal 1 or 2, or 0: tried if asked for; where they are not, the store passes them.
-fn tried(store: &Store<'_>, again: bool) -> u32
+// Refusals 1 and 2: tried if asked for; where they are not, the store passes them.
+fn tried(store: &Store<'_>, again: bool) -> Result<(), Refusal>
     requires { again ≡ false → Passes (store_of store.now) }
-    ensures { result ≡ store_number (store_of store.now) }
+    ensures { number_in result ≡ store_number (store_of store.now) }
 {
     if !again {
-        return 0;
+        return Ok(());
     }
     intake::refused(
         store.image,
@@ -58,9 +60,8 @@ fn write_next(
     ensures same_places { SamePlaces store.old store.new }
     ensures done { Wrote object offset bytes.now seconds nanoseconds (store_of store.old) result (store_of store.new) }
 {
-    let number = tried(store, again);
-    if number != 0 {
-        return number;
+    if let Err(refusal) = tried(store, again) {
+        return refusal.number();
     }
     let done = write::write::write_file(
         store,

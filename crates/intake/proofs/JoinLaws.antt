@@ -16,6 +16,11 @@ use Rattle.rules.specs.Group.{group_bytes}
 use Rattle.rules.specs.Book.{LentBooks, book_places, decode_book, decode_books, Books}
 use Rattle.rules.specs.Store.{Store, Volume, lent, decode, decode_with}
 use Rattle.rules.specs.Refusal.{Outcome, Result, number_of, first_case, result}
+use Rattle.format.specs.declared.refusal.Refusal.{Refusal}
+use Rattle.format.specs.declared.refusal.Refusal.TheVariants.{WrongLength, BrokenRule}
+use Rattle.format.specs.Refusals.{number_in, refusal_of}
+use Rattle.format.proofs.RefusalLaws.{refusal-positive}
+use Rattle.std.specs.Prelude.{Ok, Err}
 use Rattle.rules.specs.Refusal.Refusal.{wrong_length, broken_rule}
 use Rattle.rules.specs.Refusal.Outcome.{refuse}
 use Rattle.rules.specs.Answers.{outcome_number}
@@ -145,42 +150,42 @@ rule-image i j hd c e g u x = refl
 
 module _ (s : Store) where
   -- refusal 1 comes
-  pub number-one : (r : Bool) → r ≡ length_wrong s → r ≡ true → 1 ≡ store_number s
-  unfolding store_number store_cases first_case pick◌then◌else◌ outcome_number number_of
+  pub number-one : (r : Bool) → r ≡ length_wrong s → r ≡ true → number_in {A = Unit {0}} (Err WrongLength) ≡ store_number s
+  unfolding store_number store_cases first_case pick◌then◌else◌ outcome_number number_of number_in refusal_of
   number-one r p t = rw (← p, t) refl
 
   -- refusal 2 does
-  pub number-two : (r q : Bool) → r ≡ length_wrong s → r ≡ false → q ≡ rule_broken s → q ≡ true → 2 ≡ store_number s
-  unfolding store_number store_cases first_case pick◌then◌else◌ outcome_number number_of
+  pub number-two : (r q : Bool) → r ≡ length_wrong s → r ≡ false → q ≡ rule_broken s → q ≡ true → number_in {A = Unit {0}} (Err BrokenRule) ≡ store_number s
+  unfolding store_number store_cases first_case pick◌then◌else◌ outcome_number number_of number_in refusal_of
   number-two r q p t f z = rw (← p, t, ← f, z) refl
 
   -- none does
-  pub number-none : (r q : Bool) → r ≡ length_wrong s → r ≡ false → q ≡ rule_broken s → q ≡ false → 0 ≡ store_number s
-  unfolding store_number store_cases first_case pick◌then◌else◌ outcome_number number_of
-  number-none r q p t f z = rw (← p, t, ← f, z) refl
-
-  -- where the number is 0 the store passes
-  pub number-passes : store_number s ≡ 0 → Passes s
-  number-passes e =
-      test-cases (Passes s) (length_wrong s) (λ t. absurd (omega (arith, number-one (length_wrong s) refl t)))
-      (λ t. test-cases (Passes s) (rule_broken s) (λ z. absurd (omega (arith, number-two (length_wrong s) (rule_broken s) refl t refl z)))
-      (λ z. record { lengths = t; rules = z }))
+  pub number-none : (r q : Bool) (x : Unit {0}) → r ≡ length_wrong s → r ≡ false → q ≡ rule_broken s → q ≡ false → number_in (Ok x) ≡ store_number s
+  unfolding store_number store_cases first_case pick◌then◌else◌ outcome_number number_of number_in
+  number-none r q x p t f z = rw (← p, t, ← f, z) refl
 
 -- ---- a call stopped by them
 
--- a call that refusal 1 or 2 stops gives its number, whatever it would go on with, and leaves the store and the output buffer
-pub stopped : (s : Store) (out : List ℕ) (next : Outcome) (n : ℕ) → n ≡ store_number s → (n ≡ 0 → ⊥)
-    → ◌≡◌ {A = Result} (record { number = n; count = 0; store = s; out = out }) (result s out (first_case (store_cases s) next))
-unfolding store_number store_cases first_case outcome_number result number_of
-stopped s out next n e z =
-    test-cases _ (length_wrong s)
-    (λ t. let m : n ≡ 1 = e ∙ ap outcome_number (if-true (length_wrong s) (refuse wrong_length) _ t) in
-    rw (m, if-true (length_wrong s) (refuse wrong_length) (pick rule_broken s then refuse broken_rule else next) t) refl)
-    (λ t. test-cases _ (rule_broken s)
-    (λ u. let m : n ≡ 2 = e ∙ ap outcome_number (if-false (length_wrong s) (refuse wrong_length) _ t ∙ if-true (rule_broken s) (refuse broken_rule) _ u) in
-    rw (m, if-false (length_wrong s) (refuse wrong_length) (pick rule_broken s then refuse broken_rule else next) t, if-true (rule_broken s) (refuse broken_rule) next u) refl)
-    (λ u. absurd (z (e ∙ ap outcome_number (if-false (length_wrong s) (refuse wrong_length) _ t ∙ if-false (rule_broken s) (refuse broken_rule) _ u)))))
+module _ (s : Store) where
+  -- a call that refusal 1 or 2 stops gives its number, whatever it would go on with, and leaves the store and the output buffer
+  pub stopped : (out : List ℕ) (next : Outcome) (r : Refusal) → number_in {A = Unit {0}} (Err r) ≡ store_number s
+      → ◌≡◌ {A = Result} (record { number = number_of (refusal_of r); count = 0; store = s; out = out }) (result s out (first_case (store_cases s) next))
+  unfolding store_number store_cases first_case outcome_number result number_in
+  stopped out next r e =
+      test-cases _ (length_wrong s)
+      (λ t. let m : number_of (refusal_of r) ≡ number_of wrong_length = e ∙ ap outcome_number (if-true (length_wrong s) (refuse wrong_length) _ t) in
+      rw (m, if-true (length_wrong s) (refuse wrong_length) (pick rule_broken s then refuse broken_rule else next) t) refl)
+      (λ t. test-cases _ (rule_broken s)
+      (λ u. let m : number_of (refusal_of r) ≡ number_of broken_rule = e ∙ ap outcome_number (if-false (length_wrong s) (refuse wrong_length) _ t ∙ if-true (rule_broken s) (refuse broken_rule) _ u) in
+      rw (m, if-false (length_wrong s) (refuse wrong_length) (pick rule_broken s then refuse broken_rule else next) t, if-true (rule_broken s) (refuse broken_rule) next u) refl)
+      (λ u. let m : number_of (refusal_of r) ≡ 0 = e ∙ ap outcome_number (if-false (length_wrong s) (refuse wrong_length) _ t ∙ if-false (rule_broken s) (refuse broken_rule) _ u) in
+      absurd (omega (arith, m, refusal-positive r))))
 
--- where neither comes the store passes
-pub not_stopped : (s : Store) (n : ℕ) → n ≡ store_number s → n ≡ 0 → Passes s
-not_stopped s n e z = number-passes s (sym e ∙ z)
+  -- where neither comes the store passes
+  pub not_stopped : (x : Unit {0}) → number_in (Ok x) ≡ store_number s → Passes s
+  unfolding store_number store_cases first_case outcome_number number_in number_of
+  not_stopped x e =
+      test-cases (Passes s) (length_wrong s) (λ t. absurd (omega (arith, e ∙ ap outcome_number (if-true (length_wrong s) (refuse wrong_length) _ t))))
+      (λ t. test-cases (Passes s) (rule_broken s)
+      (λ u. absurd (omega (arith, e ∙ ap outcome_number (if-false (length_wrong s) (refuse wrong_length) _ t ∙ if-true (rule_broken s) (refuse broken_rule) _ u))))
+      (λ u. record { lengths = t; rules = u }))

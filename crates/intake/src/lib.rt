@@ -2,13 +2,16 @@
 //
 // `intake_lengths` has the tests of refusal 1, `intake_books` and `intake_maps` those of refusal 2. Each takes one slice and a number, so that it can be asked
 // of parts of other buffers; those of refusal 2 may assume what refusal 1 found, those of the maps what was found of the books. The functions here join them,
-// with no assumption left: the calls behind `refused` may assume that it answered 0.
+// with no assumption left: the calls behind `refused` may assume that it let them go on.
 #![tactic(auto)]
 
 ghost use Rattle.std.specs.Prelude.{◌≡◌, []};
 ghost use Rattle.rules.specs.Store.{lent};
 ghost use Rattle.rules.specs.Integrity.{rule_broken};
+ghost use Rattle.format.specs.Refusals.{number_in};
 ghost use Rattle.intake.specs.Join.{store_number, LengthsRight};
+
+use format::refusal::Refusal;
 
 // Whether a book or a map breaks a rule. The image is not asked for, as no rule speaks of it.
 pub fn rule_broken(
@@ -24,7 +27,7 @@ pub fn rule_broken(
 {
     let h = format::head::decode_head(head);
     let n = h.extents as usize;
-    if intake_books::books_broken(
+    intake_books::books_broken(
         h.blocks,
         cards,
         h.cards as usize,
@@ -32,10 +35,7 @@ pub fn rule_broken(
         n,
         groups,
         h.groups as usize,
-    ) {
-        return true;
-    }
-    intake_maps::maps_broken(
+    ) || intake_maps::maps_broken(
         extents,
         n,
         h.blocks as usize,
@@ -45,7 +45,7 @@ pub fn rule_broken(
     )
 }
 
-// The number of the first of refusals 1 and 2 that comes, or 0.
+// The first of refusals 1 and 2 that comes.
 pub fn refused(
     image: &[u8],
     head: &[u8],
@@ -54,14 +54,14 @@ pub fn refused(
     groups: &[u8],
     used: &[u8],
     retired: &[u8],
-) -> u32
-    ensures { result ≡ store_number (lent image.now head.now cards.now extents.now groups.now used.now retired.now) }
+) -> Result<(), Refusal>
+    ensures { number_in result ≡ store_number (lent image.now head.now cards.now extents.now groups.now used.now retired.now) }
 {
     if intake_lengths::lengths_wrong(image, head, cards, extents, groups, used, retired) {
-        return 1;
+        return Err(Refusal::WrongLength);
     }
     if rule_broken(head, cards, extents, groups, used, retired) {
-        return 2;
+        return Err(Refusal::BrokenRule);
     }
-    0
+    Ok(())
 }

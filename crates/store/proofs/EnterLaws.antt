@@ -6,7 +6,7 @@ use mathlib.Core.List.{List, [], ◌∷◌, ◌++◌, append-nil}
 use Prim.Native.Nat.{ℕ, suc, ◌+◌, ◌-◌, ◌*◌, ◌/◌, ◌^◌, ◌≤◌, ◌<◌}
 use native.Mathlib.Omega.{arith}
 use borrow.Author.Tests.{lt-ltb, le-ltb, le-leb, lt-leb}
-use lib.Dec.{leb}
+use lib.Dec.{leb, ltb}
 use lib.ListN.{length, take, drop}
 use lib.Seq.{take_all}
 use Rattle.rules.specs.Lists.{pick◌then◌else◌, given, all, find, insert, ascending}
@@ -16,6 +16,8 @@ use Rattle.rules.specs.Time.{Time}
 use Rattle.rules.specs.Head.{Head, decode_head, encode_head}
 use Rattle.rules.specs.Card.{Card, card_bytes, decode_card, encode_card, card_spare_zero, card_before}
 use Rattle.rules.specs.Book.{decode_book, encode_book, book_places}
+use Rattle.rules.specs.Refusal.{number_of}
+use Rattle.rules.specs.Refusal.Refusal.{card_exists, bad_time, no_card_place}
 use Rattle.rules.specs.Arguments.{time_wrong}
 use Rattle.rules.specs.Enter.{new_card}
 use Rattle.rules.proofs.ListLaws.{if-true, if-false}
@@ -24,11 +26,14 @@ use Rattle.rules.proofs.EnterLaws.{new-fits}
 use Rattle.rules.proofs.CardLaws.{encode-decode_card, decode-encode_card, length-encode_card, spare-encode_card}
 use Rattle.words.proofs.NumberLaws.{patch-whole}
 use Rattle.book.specs.Places.{found_in, leading, card_is, card_under, FoundFirst, Spliced}
-use Rattle.book.specs.declared.Found.{Found}
-use Rattle.book.specs.declared.Found.TheVariants.{At, Nothing}
+use Rattle.std.proofs.Common.{Option, Some, None}
 use Rattle.book.proofs.InsertLaws.{insert-leading, spliced-book}
 use Rattle.format.specs.declared.card.Card as struct
 use Rattle.format.specs.declared.head.Head as head
+use Rattle.std.specs.Prelude.{Ok, Err}
+use Rattle.std.specs.Option.{is_some}
+use Rattle.format.specs.declared.refusal.Refusal.TheVariants.{CardExists, BadTime, NoCardPlace}
+use Rattle.format.specs.Refusals.{number_in, refusal_of}
 use Rattle.format.specs.Records.{card_of, CardFits, head_of, HeadFits}
 use Rattle.format.proofs.RecordLaws.{card-in-range, fits_said}
 use Rattle.store.specs.Buffers.{enter_number, one_card_more, CardsRight}
@@ -37,58 +42,60 @@ use Rattle.store.specs.Buffers.{enter_number, one_card_more, CardsRight}
 
 module _ (cs : List Card) (places object : ℕ) (time : Time) where
   -- the object has a card
-  number-4 : given (find (card_is object) cs) ≡ true → 4 ≡ enter_number cs places object time
+  number-4 : given (find (card_is object) cs) ≡ true → number_of card_exists ≡ enter_number cs places object time
   unfolding enter_number
-  number-4 g = sym (if-true (given (find (card_is object) cs)) 4 _ g)
+  number-4 g = sym (if-true (given (find (card_is object) cs)) (number_of card_exists) _ g)
 
   -- it has none, and the time is wrong
-  number-7 : given (find (card_is object) cs) ≡ false → time_wrong time ≡ true → 7 ≡ enter_number cs places object time
+  number-7 : given (find (card_is object) cs) ≡ false → time_wrong time ≡ true → number_of bad_time ≡ enter_number cs places object time
   unfolding enter_number
-  number-7 g t = sym (if-false (given (find (card_is object) cs)) 4 _ g ∙ if-true (time_wrong time) 7 _ t)
+  number-7 g t = sym (if-false (given (find (card_is object) cs)) (number_of card_exists) _ g ∙ if-true (time_wrong time) (number_of bad_time) _ t)
 
   -- it has none, the time is right, and there is no place or some
-  number-8 : given (find (card_is object) cs) ≡ false → time_wrong time ≡ false → (b : Bool) → leb places (length cs) ≡ b → (pick b then 8 else 0) ≡ enter_number cs places object time
+  number-8 : given (find (card_is object) cs) ≡ false → time_wrong time ≡ false → (b : Bool) → leb places (length cs) ≡ b → (pick b then number_of no_card_place else 0) ≡ enter_number cs places object time
   unfolding enter_number
-  number-8 g t b e = sym (if-false (given (find (card_is object) cs)) 4 _ g ∙ if-false (time_wrong time) 7 _ t ∙ ap (λ (c : Bool). pick c then 8 else 0) e)
+  number-8 g t b e =
+      sym (if-false (given (find (card_is object) cs)) (number_of card_exists) _ g ∙ if-false (time_wrong time) (number_of bad_time) _ t
+      ∙ ap (λ (c : Bool). pick c then number_of no_card_place else 0) e)
 
--- a card that was found
-found-given : (n object : ℕ) (s : List ℕ) (r : Found) (i : ℕ) → FoundFirst (card_is object) decode_card card_bytes n s r → r ≡ At i
-    → given (find (card_is object) (decode_book decode_card card_bytes n s)) ≡ true
+-- whether a search's answer stands for a record
+given-found : (s : List ℕ) (f : Option ℕ) → given (found_in decode_card card_bytes s f) ≡ is_some f
 unfolding found_in given
-found-given n object s r i h e = sym (ap given h.found) ∙ ap (λ (f : Found). given (found_in decode_card card_bytes s f)) e
+given-found s None = refl
+given-found s (Some i) = refl
 
--- none
-nothing-given : (n object : ℕ) (s : List ℕ) (r : Found) → FoundFirst (card_is object) decode_card card_bytes n s r → r ≡ Nothing
-    → given (find (card_is object) (decode_book decode_card card_bytes n s)) ≡ false
-unfolding found_in given
-nothing-given n object s r h e = sym (ap given h.found) ∙ ap (λ (f : Found). given (found_in decode_card card_bytes s f)) e
+module _ (n object : ℕ) (s : List ℕ) (time : Time) (f : Option ℕ) (h : FoundFirst (card_is object) decode_card card_bytes n s f) (o : Bool) (p : o ≡ is_some f) where
+  -- whether a card was found
+  found : given (find (card_is object) (decode_book decode_card card_bytes n s)) ≡ o
+  found = sym (ap given h.found) ∙ given-found s f ∙ sym p
 
-module _ (n object : ℕ) (s : List ℕ) (time : Time) (f : Found) (h : FoundFirst (card_is object) decode_card card_bytes n s f) where
   -- refusal 4
-  pub enter-4 : (i : ℕ) → f ≡ At i → 4 ≡ enter_number (decode_book decode_card card_bytes n s) (book_places card_bytes s) object time
-  enter-4 i q = number-4 _ _ object time (found-given n object s f i h q)
+  pub enter-4 : o ≡ true → number_in {A = Unit {0}} (Err CardExists) ≡ enter_number (decode_book decode_card card_bytes n s) (book_places card_bytes s) object time
+  unfolding number_in refusal_of
+  enter-4 q = number-4 _ _ object time (found ∙ q)
 
-  module _ (q : f ≡ Nothing) where
+  module _ (q : o ≡ false) where
     -- refusal 7
-    pub enter-7 : (r : Bool) → r ≡ time_wrong time → r ≡ true → 7 ≡ enter_number (decode_book decode_card card_bytes n s) (book_places card_bytes s) object time
-    enter-7 r e t = number-7 _ _ object time (nothing-given n object s f h q) (sym e ∙ t)
+    pub enter-7 : (r : Bool) → r ≡ time_wrong time → r ≡ true → number_in {A = Unit {0}} (Err BadTime) ≡ enter_number (decode_book decode_card card_bytes n s) (book_places card_bytes s) object time
+    unfolding number_in refusal_of
+    enter-7 r e t = number-7 _ _ object time (found ∙ q) (sym e ∙ t)
 
     -- refusal 8
-    pub enter-8 : (r : Bool) → r ≡ time_wrong time → r ≡ false → length s / card_bytes ≤ n → 8 ≡ enter_number (decode_book decode_card card_bytes n s) (book_places card_bytes s) object time
-    unfolding book_places pick◌then◌else◌
+    pub enter-8 : (r : Bool) → r ≡ time_wrong time → r ≡ false → length s / card_bytes ≤ n → number_in {A = Unit {0}} (Err NoCardPlace) ≡ enter_number (decode_book decode_card card_bytes n s) (book_places card_bytes s) object time
+    unfolding book_places pick◌then◌else◌ number_in refusal_of
     enter-8 r e t l =
-        number-8 _ _ object time (nothing-given n object s f h q) (sym e ∙ t) true
+        number-8 _ _ object time (found ∙ q) (sym e ∙ t) true
         (le-leb (length s / card_bytes) (length (decode_book decode_card card_bytes n s)) (rw (length-decode_book decode_card card_bytes n s) l))
 
     -- none of them
-    pub enter-0 : (r : Bool) → r ≡ time_wrong time → r ≡ false → n < length s / card_bytes → 0 ≡ enter_number (decode_book decode_card card_bytes n s) (book_places card_bytes s) object time
-    unfolding book_places pick◌then◌else◌
+    pub enter-0 : (r : Bool) → r ≡ time_wrong time → r ≡ false → n < length s / card_bytes → number_in {A = Unit {0}} (Ok tt) ≡ enter_number (decode_book decode_card card_bytes n s) (book_places card_bytes s) object time
+    unfolding book_places pick◌then◌else◌ number_in refusal_of
     enter-0 r e t l =
-        number-8 _ _ object time (nothing-given n object s f h q) (sym e ∙ t) false
+        number-8 _ _ object time (found ∙ q) (sym e ∙ t) false
         (lt-leb (length s / card_bytes) (length (decode_book decode_card card_bytes n s)) (rw (length-decode_book decode_card card_bytes n s) l))
 
 -- a time with too many seconds
-pub time-late : (time : Time) → most_seconds < time.seconds → true ≡ time_wrong time
+pub time-late : (time : Time) → most_seconds < time.seconds → ltb most_seconds time.seconds ≡ time_wrong time
 unfolding time_wrong
 time-late time l = rw (lt-ltb most_seconds time.seconds l) refl
 

@@ -7,6 +7,8 @@ use Rattle.rules.specs.Time.{Time}
 use Rattle.rules.specs.Head.{Head, head_bytes, decode_head}
 use Rattle.rules.specs.Card.{Card, card_bytes, decode_card, card_spare_zero, card_before}
 use Rattle.rules.specs.Book.{decode_book, zero_behind}
+use Rattle.rules.specs.Refusal.{number_of}
+use Rattle.rules.specs.Refusal.Refusal.{card_exists, bad_time, no_card_place}
 use Rattle.rules.specs.Arguments.{time_wrong}
 
 -- the head that fresh writes
@@ -29,9 +31,9 @@ one_card_more h = record {
 -- the number of refusal 4, 7 or 8 for a new file among these cards, in a book of so many places; or 0
 unfoldable pub enter_number : List Card → ℕ → ℕ → Time → ℕ
 enter_number cs places object time =
-    pick given (find (λ c. eqb c.object object) cs) then 4
-    else pick time_wrong time then 7
-    else pick leb places (length cs) then 8
+    pick given (find (λ c. eqb c.object object) cs) then number_of card_exists
+    else pick time_wrong time then number_of bad_time
+    else pick leb places (length cs) then number_of no_card_place
     else 0
 
 -- a book of n cards that keeps its rules

@@ -7,11 +7,12 @@ ghost use Rattle.rules.specs.Book.{decode_book, encode_book, book_places};
 ghost use Rattle.rules.specs.Arguments.{time_wrong};
 ghost use Rattle.rules.specs.Enter.{new_card};
 ghost use Rattle.format.specs.Records.{card_of, CardFits};
+ghost use Rattle.format.specs.Refusals.{number_in};
 ghost use Rattle.store.specs.Buffers.{one_card_more, enter_number, CardsRight, EnterReady};
 
-use book::Found;
 use format::card::{CARD_BYTES, Card};
 use format::head::Head;
+use format::refusal::Refusal;
 
 // Seconds that a file's time may have at most.
 const MOST_SECONDS: u64 = 9223372036854775807;
@@ -23,28 +24,24 @@ const NANOSECONDS_BOUND: u64 = 1000000000;
 pub fn time_wrong(seconds: u64, nanoseconds: u64) -> bool
     ensures { result ≡ time_wrong (record { seconds = seconds; nanoseconds = nanoseconds }) }
 {
-    if MOST_SECONDS < seconds {
-        return true;
-    }
-    NANOSECONDS_BOUND <= nanoseconds
+    MOST_SECONDS < seconds || NANOSECONDS_BOUND <= nanoseconds
 }
 
-// The number of refusal 4, 7 or 8 for a new file in a book of `n` cards, or 0.
-pub fn enter_refused(cards: &[u8], n: usize, object: u64, seconds: u64, nanoseconds: u64) -> u32
+// Refusal 4, 7 or 8 of a new file in a book of `n` cards.
+pub fn enter_refused(cards: &[u8], n: usize, object: u64, seconds: u64, nanoseconds: u64) -> Result<(), Refusal>
     requires { card_bytes * n ≤ length cards.now }
-    ensures { result ≡ enter_number (decode_book decode_card card_bytes n cards.now) (book_places card_bytes cards.now) object (record { seconds = seconds; nanoseconds = nanoseconds }) }
+    ensures { number_in result ≡ enter_number (decode_book decode_card card_bytes n cards.now) (book_places card_bytes cards.now) object (record { seconds = seconds; nanoseconds = nanoseconds }) }
 {
-    let found = book::find::find_card(cards, n, object);
-    if let Found::At(_) = found {
-        return 4;
+    if book::find::find_card(cards, n, object).is_some() {
+        return Err(Refusal::CardExists);
     }
     if time_wrong(seconds, nanoseconds) {
-        return 7;
+        return Err(Refusal::BadTime);
     }
     if cards.len() / CARD_BYTES <= n {
-        return 8;
+        return Err(Refusal::NoCardPlace);
     }
-    0
+    Ok(())
 }
 
 // A card put at its place into a book of `n`.
@@ -56,8 +53,7 @@ fn insert_card(cards: &mut [u8], n: usize, c: Card)
 {
     let mut x = [0u8; CARD_BYTES];
     format::card::encode_card(&mut x, 0, c);
-    let object = c.object;
-    let i = book::find::first_card(cards, n, object);
+    let i = book::find::first_card(cards, n, c.object);
     book::splice::splice_cards(cards, n, i, 0, &x, 1);
 }
 
@@ -67,17 +63,13 @@ fn count_card(head: &mut [u8])
     ensures { head.new ≡ encode_head (one_card_more (decode_head head.old)) }
 {
     let h = format::head::decode_head(head);
-    let uuid = h.uuid;
-    let g = Head {
-        uuid,
-        blocks: h.blocks,
-        reserved: h.reserved,
-        hint: h.hint,
-        cards: h.cards + 1,
-        extents: h.extents,
-        groups: h.groups,
-    };
-    format::head::encode_head(head, g);
+    format::head::encode_head(
+        head,
+        Head {
+            cards: h.cards + 1,
+            ..h
+        },
+    );
 }
 
 // The number of cards that a head counts.

@@ -4,7 +4,6 @@ ghost use Rattle.rules.specs.Head.{head_bytes, decode_head};
 ghost use Rattle.rules.specs.Card.{card_bytes};
 ghost use Rattle.write.specs.Call.{FileFound};
 
-use book::Found;
 use format::card::CARD_BYTES;
 use lent::Store;
 
@@ -23,7 +22,7 @@ pub fn find_file(store: &Store<'_>, object: u64) -> File
 {
     let h = store.decode_head();
     match book::find::find_card(store.cards, h.cards as usize, object) {
-        Found::At(i) => {
+        Some(i) => {
             let card = format::card::decode_card(store.cards, CARD_BYTES * i);
             File {
                 known: true,
@@ -31,7 +30,7 @@ pub fn find_file(store: &Store<'_>, object: u64) -> File
                 allocated: card.allocated,
             }
         }
-        Found::Nothing => File {
+        None => File {
             known: false,
             size: 0,
             allocated: 0,

@@ -14,4 +14,4 @@ pub returns-then-rule_broken : goal.returns-then-rule_broken
 returns-then-rule_broken c = number-two _ _ _ c.lengths_wrong.ensures c.if-lengths_wrong.false (c.rule_broken.ensures ∙ rule-image _ _ _ _ _ _ _ _) c.if-rule_broken.true
 
 pub returns : goal.returns
-returns c = number-none _ _ _ c.lengths_wrong.ensures c.if-lengths_wrong.false (c.rule_broken.ensures ∙ rule-image _ _ _ _ _ _ _ _) c.if-rule_broken.false
+returns c = number-none _ _ _ _ c.lengths_wrong.ensures c.if-lengths_wrong.false (c.rule_broken.ensures ∙ rule-image _ _ _ _ _ _ _ _) c.if-rule_broken.false

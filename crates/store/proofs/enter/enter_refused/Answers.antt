@@ -4,14 +4,14 @@ use Rattle.store.proofs.EnterLaws.{enter-4, enter-7, enter-8, enter-0}
 use native.Mathlib.Omega.{arith}
 use Rattle.store.proofs.enter.enter_refused.Goals as goal
 
-pub returns-in-At : goal.returns-in-At
-returns-in-At c = enter-4 _ _ _ _ _ c.find_card-found.ensures _ c.in-At.is
+pub returns-then-is_some : goal.returns-then-is_some
+returns-then-is_some c = enter-4 _ _ _ _ _ c.find_card.ensures _ c.is_some.ensures c.if-is_some.true
 
 pub returns-then-time_wrong : goal.returns-then-time_wrong
-returns-then-time_wrong c = enter-7 _ _ _ _ _ c.find_card-found.ensures c.in_default.is _ c.time_wrong.ensures c.if-time_wrong.true
+returns-then-time_wrong c = enter-7 _ _ _ _ _ c.find_card.ensures _ c.is_some.ensures c.if-is_some.false _ c.time_wrong.ensures c.if-time_wrong.true
 
 pub returns-then-cards-n : goal.returns-then-cards-n
-returns-then-cards-n c = enter-8 _ _ _ _ _ c.find_card-found.ensures c.in_default.is _ c.time_wrong.ensures c.if-time_wrong.false (omega arith)
+returns-then-cards-n c = enter-8 _ _ _ _ _ c.find_card.ensures _ c.is_some.ensures c.if-is_some.false _ c.time_wrong.ensures c.if-time_wrong.false (omega arith)
 
 pub returns : goal.returns
-returns c = enter-0 _ _ _ _ _ c.find_card-found.ensures c.in_default.is _ c.time_wrong.ensures c.if-time_wrong.false (omega arith)
+returns c = enter-0 _ _ _ _ _ c.find_card.ensures _ c.is_some.ensures c.if-is_some.false _ c.time_wrong.ensures c.if-time_wrong.false (omega arith)

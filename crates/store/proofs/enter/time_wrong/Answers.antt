@@ -8,5 +8,5 @@ use Rattle.store.proofs.enter.time_wrong.Goals as goal
 pub returns-then-seconds-gt-MOST_SECONDS : goal.returns-then-seconds-gt-MOST_SECONDS
 returns-then-seconds-gt-MOST_SECONDS c = time-late _ (omega arith)
 
-pub returns : goal.returns
-returns c = time-part _ _ (omega arith) refl
+pub returns-else-seconds-gt-MOST_SECONDS : goal.returns-else-seconds-gt-MOST_SECONDS
+returns-else-seconds-gt-MOST_SECONDS c = time-part _ _ (omega arith) refl
