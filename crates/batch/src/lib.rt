@@ -34,15 +34,7 @@ fn tried(store: &Store<'_>, again: bool) -> Result<(), Refusal>
     if !again {
         return Ok(());
     }
-    intake::refused(
-        store.image,
-        store.head,
-        store.cards,
-        store.extents,
-        store.groups,
-        store.used,
-        store.retired,
-    )
+    intake::refused(&store.view())
 }
 
 // One write as a call: the number of its refusal, or 0. Refusals 1 and 2 are tried if asked for.

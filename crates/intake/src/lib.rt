@@ -9,9 +9,11 @@ ghost use Rattle.std.specs.Prelude.{◌≡◌, []};
 ghost use Rattle.rules.specs.Store.{lent};
 ghost use Rattle.rules.specs.Integrity.{rule_broken};
 ghost use Rattle.format.specs.Refusals.{number_in};
+ghost use Rattle.lent.specs.Lent.{seen};
 ghost use Rattle.intake.specs.Join.{store_number, LengthsRight};
 
 use format::refusal::Refusal;
+use lent::View;
 
 // Whether a book or a map breaks a rule. The image is not asked for, as no rule speaks of it.
 pub fn rule_broken(
@@ -46,21 +48,28 @@ pub fn rule_broken(
 }
 
 // The first of refusals 1 and 2 that comes.
-pub fn refused(
-    image: &[u8],
-    head: &[u8],
-    cards: &[u8],
-    extents: &[u8],
-    groups: &[u8],
-    used: &[u8],
-    retired: &[u8],
-) -> Result<(), Refusal>
-    ensures { number_in result ≡ store_number (lent image.now head.now cards.now extents.now groups.now used.now retired.now) }
+pub fn refused(store: &View<'_>) -> Result<(), Refusal>
+    ensures { number_in result ≡ store_number (seen store.now) }
 {
-    if intake_lengths::lengths_wrong(image, head, cards, extents, groups, used, retired) {
+    if intake_lengths::lengths_wrong(
+        store.image,
+        store.head,
+        store.cards,
+        store.extents,
+        store.groups,
+        store.used,
+        store.retired,
+    ) {
         return Err(Refusal::WrongLength);
     }
-    if rule_broken(head, cards, extents, groups, used, retired) {
+    if rule_broken(
+        store.head,
+        store.cards,
+        store.extents,
+        store.groups,
+        store.used,
+        store.retired,
+    ) {
         return Err(Refusal::BrokenRule);
     }
     Ok(())

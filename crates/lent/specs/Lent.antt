@@ -4,10 +4,15 @@ use Rattle.std.specs.Prelude.{◌≡◌}
 use Rattle.rules.specs.Store as rules
 use Rattle.rules.specs.Store.{lent}
 use Rattle.lent.specs.declared.Store.{Store}
+use Rattle.lent.specs.declared.View.{View}
 
 -- the store that the buffers are
 abbrev pub store_of : Store → rules.Store
 store_of s = lent s.image.now s.head.now s.cards.now s.extents.now s.groups.now s.used.now s.retired.now
+
+-- the store that is seen
+abbrev pub seen : View → rules.Store
+seen v = lent v.image.now v.head.now v.cards.now v.extents.now v.groups.now v.used.now v.retired.now
 
 -- each buffer is where it was: only its bytes may be others
 pub record SamePlaces (s t : Store) : Type 0 where
