@@ -83,16 +83,16 @@ low-digits i (suc k) v =
     byte zero x = rw (div-one x) refl
     byte (suc j) x = refl
 
--- a number read from its bytes
+-- what the library's methods write
+pub be-bytes : (k v : ℕ) (xs : List ℕ) → xs ≡ bytes_high_first k v → xs ≡ be_digits k v
+be-bytes k v xs e = e ∙ high-digits k v
+
+pub le-bytes : (k v : ℕ) (xs : List ℕ) → xs ≡ bytes_low_first 0 k v → xs ≡ le_digits k v
+le-bytes k v xs e = e ∙ low-digits 0 k v ∙ ap (le_digits k) (div-one v)
+
+-- a number whose bytes these are
 pub be-read : (k n : ℕ) (s : List ℕ) → bytes_high_first k n ≡ s → n < 256 ^ k → n ≡ be s
-be-read k n s e h = sym (be-be_digits-fits k n h) ∙ ap be (sym (high-digits k n) ∙ e)
+be-read k n s e h = sym (be-be_digits-fits k n h) ∙ ap be (sym (be-bytes k n s (sym e)))
 
 pub le-read : (k n : ℕ) (s : List ℕ) → bytes_low_first 0 k n ≡ s → n < 256 ^ k → n ≡ le s
-le-read k n s e h = sym (le-le_digits-fits k n h) ∙ ap le (sym (low-digits 0 k n ∙ ap (le_digits k) (div-one n)) ∙ e)
-
--- a number's bytes written
-pub be-written : (k v at : ℕ) (s xs : List ℕ) → xs ≡ bytes_high_first k v → patch s at xs ≡ patch s at (be_digits k v)
-be-written k v at s xs e = ap (patch s at) (e ∙ high-digits k v)
-
-pub le-written : (k v at : ℕ) (s xs : List ℕ) → xs ≡ bytes_low_first 0 k v → patch s at xs ≡ patch s at (le_digits k v)
-le-written k v at s xs e = ap (patch s at) (e ∙ low-digits 0 k v ∙ ap (le_digits k) (div-one v))
+le-read k n s e h = sym (le-le_digits-fits k n h) ∙ ap le (sym (le-bytes k n s (sym e)))

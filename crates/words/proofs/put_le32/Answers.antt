@@ -1,6 +1,7 @@
-use mathlib.Core.Path.{◌∙◌}
-use Rattle.words.proofs.NumberLaws.{le-written}
+use mathlib.Core.Path.{◌∙◌, ap}
+use Rattle.rules.specs.Bytes.{patch}
+use Rattle.words.proofs.NumberLaws.{le-bytes}
 use Rattle.words.proofs.put_le32.Goals as goal
 
 pub returns : goal.returns
-returns c = c.put_array.ensures ∙ le-written 4 _ _ _ _ c.to_le_bytes.ensures
+returns c = c.put_array.ensures ∙ ap (patch _ _) (le-bytes 4 _ _ c.to_le_bytes.ensures)
