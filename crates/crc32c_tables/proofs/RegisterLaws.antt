@@ -2,16 +2,20 @@
 -- one after the other are their concatenation fed.
 -- Assumes nothing.
 use mathlib.Core.Path.{◌≡◌, refl, sym, ap, ap₂, ◌∙◌}
-use mathlib.Core.List.{List, [], ◌∷◌, ◌++◌}
-use Prim.Native.Nat.{ℕ, zero, suc, ◌+◌, ◌*◌, ◌-◌, ◌/◌, ◌%◌, ◌^◌, ◌≤◌, ◌<◌}
-use native.Mathlib.Nat.{pow-suc, mul_assoc, zero-add, suc-add, sub_self}
+use mathlib.Core.List.{List, [], ◌∷◌, ◌++◌, append-nil, append_assoc}
+use Prim.Native.Nat.{ℕ, zero, suc, ◌+◌, ◌*◌, ◌/◌, ◌%◌, ◌^◌, ◌≤◌, ◌<◌}
+use native.Mathlib.Nat.{add_comm, zero-mul, suc-mul, pow-suc, mul_assoc, zero-add, suc-add}
 use native.Mathlib.Omega.{arith}
-use lib.ListN.{length, get_or, take, drop, length-drop, take-append-drop}
-use lib.Seq.{take-add, take_all}
+use lib.ListN.{length, get_or, take, drop, take-append-drop}
+use lib.Seq.{drop-cons, drop-drop, take_all}
 use lib.Bits.{bit_xor, xor_zero_r, xor_comm, xor_shifted, xor_lt}
-use Rattle.rules.specs.Bytes.{le, Bytes, part}
-use Rattle.rules.proofs.ByteLaws.{length_part, part-add, part-suc, part_none, bytes-part}
-use Rattle.words.proofs.NumberLaws.{part-is, le-append}
+use Rattle.std.proofs.lemmas.List.{drop_all, take_more}
+use Rattle.std.proofs.lemmas.List.Folds.{concat-append}
+use Rattle.std.specs.List.{concat, fold}
+use Rattle.std.specs.Simd.{first_chunks}
+use Rattle.rules.specs.Bytes.{le, le_digits, Bytes, part}
+use Rattle.rules.proofs.ByteLaws.{length-le_digits, bytes-le_digits, le-part-lt, le-le_digits-fits, bytes-append, length_part, bytes_drop}
+use Rattle.words.proofs.NumberLaws.{le-append, part-is}
 use Rattle.crc32c_tables.specs.Register.{feedback, turn, turns, fed, entry, Tables}
 use Rattle.crc32c_tables.proofs.XorLaws.{xor-half, xor_low, xor_assoc, xor-swap}
 
@@ -121,86 +125,96 @@ pub turns-entry : (y : ℕ) → turns 8 y ≡ bit_xor (entry (y % 256)) (y / 256
 unfolding turns
 turns-entry y = turns-byte 0 y ∙ ap (λ (x : ℕ). bit_xor x (y / 256)) (sym (entry_at 0 (y % 256) (omega arith)) ∙ ap entry (zero-add (y % 256)))
 
--- what the code looks up for the k + 1 bytes of w, in the tables from number n on
-abbrev pub looked : List ℕ → ℕ → ℕ → ℕ → ℕ
-looked t n zero w = get_or t (256 * n + w) 0
-looked t n (suc k) w = bit_xor (looked t n k (w / 256)) (get_or t (256 * n + (256 * suc k + w % 256)) 0)
+-- what the code looks up for these bytes, the lowest first
+abbrev pub looked : List ℕ → List ℕ → ℕ
+looked t [] = 0
+looked t (x ∷ []) = get_or t x 0
+looked t (x ∷ y ∷ ys) = bit_xor (looked t (y ∷ ys)) (get_or t (256 * suc (length ys) + x) 0)
 
-looked-turns : (t : List ℕ) (n k w : ℕ) → Tables t → n + k < 16 → w < 256 ^ suc k → looked t n k w ≡ turns (8 + 8 * (n + k)) w
-looked-turns t n zero w z l h =
-    let e : n + 0 ≡ n = omega arith in
-    rw e (z.holds (256 * n + w) (omega arith) ∙ entry_at n w (omega arith))
-looked-turns t n (suc k) w z l h =
-    let p : 256 ^ suc (suc k) ≡ 256 ^ suc k * 256 = pow-suc 256 (suc k) in
-    let i : 256 * n + (256 * suc k + w % 256) ≡ 256 * (n + suc k) + w % 256 = omega arith in
-    let e : 8 * (n + suc k) ≡ 8 + 8 * (n + k) = omega arith in
-    let a : get_or t (256 * n + (256 * suc k + w % 256)) 0 ≡ turns (8 + 8 * (n + suc k)) (w % 256) =
-    rw i (z.holds (256 * (n + suc k) + w % 256) (omega arith) ∙ entry_at (n + suc k) (w % 256) (omega arith)) in
-    ap₂ bit_xor (looked-turns t n k (w / 256) z (omega arith) (omega arith) ∙ ap (λ (j : ℕ). turns j (w / 256)) (sym e)) a
-    ∙ xor_comm (turns (8 * (n + suc k)) (w / 256)) (turns (8 + 8 * (n + suc k)) (w % 256))
-    ∙ sym (turns-byte (8 * (n + suc k)) w)
+looked-turns : (t : List ℕ) (x : ℕ) (xs : List ℕ) → Tables t → length xs < 16 → Bytes (x ∷ xs) → looked t (x ∷ xs) ≡ turns (8 * suc (length xs)) (le (x ∷ xs))
+unfolding le
+looked-turns t x [] z l b =
+    let e : x ≡ 256 * 0 + x = omega arith in
+    let v : x + 256 * 0 ≡ x = omega arith in
+    rw v (z.holds x (omega (arith, b 0)) ∙ ap entry e ∙ entry_at 0 x (b 0))
+looked-turns t x (y ∷ ys) z l b =
+    let k : ℕ = suc (length ys) in
+    let m : 8 * suc k ≡ 8 + 8 * k = omega arith in
+    let lo : (x + 256 * le (y ∷ ys)) % 256 ≡ x = omega (arith, b 0) in
+    let hi : (x + 256 * le (y ∷ ys)) / 256 ≡ le (y ∷ ys) = omega (arith, b 0) in
+    rw m
+    (ap₂ bit_xor (looked-turns t y ys z (omega arith) (λ i. b (suc i))) (z.holds (256 * k + x) (omega (arith, b 0)) ∙ entry_at k x (b 0))
+    ∙ xor_comm (turns (8 * k) (le (y ∷ ys))) (turns (8 + 8 * k) x)
+    ∙ sym (turns-byte (8 * k) (x + 256 * le (y ∷ ys)) ∙ ap₂ (λ (i j : ℕ). bit_xor (turns (8 + 8 * k) i) (turns (8 * k) j)) lo hi))
 
 -- ---- in the shape of the functions' needs
 
 pub byte-law : (t : List ℕ) (y : ℕ) → Tables t → bit_xor (get_or t (y % 256) 0) (y / 256) ≡ turns 8 y
 byte-law t y z = rw (z.holds (y % 256) (omega arith)) (sym (turns-entry y))
 
-pub word-law : (t : List ℕ) (n w : ℕ) → Tables t → n ≤ 8 → w < 2 ^ 64 → looked t n 7 w ≡ turns (64 + 8 * n) w
-word-law t n w z l h =
-    let e : 64 + 8 * n ≡ 8 + 8 * (n + 7) = omega arith in
-    rw e (looked-turns t n 7 w z (omega arith) h)
+-- the n elements from k on, one by one
+abbrev pub run : List ℕ → ℕ → ℕ → List ℕ
+run s k zero = []
+run s k (suc n) = get_or s k 0 ∷ run s (suc k) n
 
--- sixteen bytes: the register is put into the lower word
-pub pair-law : (x y lo hi : ℕ) → x ≡ turns (64 + 8 * 8) lo → y ≡ turns (64 + 8 * 0) hi → lo < 2 ^ 64 → bit_xor y x ≡ turns 128 (lo + 2 ^ 64 * hi)
-pair-law x y lo hi p q h =
-    let e : lo + 2 ^ 64 * hi ≡ hi * 2 ^ 64 + lo = omega arith in
-    xor_comm y x ∙ rw (p, q, e) (sym (turns-split 64 64 lo hi h))
+run-drop : (s : List ℕ) (k n : ℕ) → length s ≡ k + n → run s k n ≡ drop k s
+run-drop s k zero h = sym (drop_all k s (omega arith))
+run-drop s k (suc n) h = ap (λ (t : List ℕ). get_or s k 0 ∷ t) (run-drop s (suc k) n (omega arith)) ∙ sym (drop-cons s k 0 (omega arith))
+
+-- what the code looks up for the sixteen bytes p, where y stands for the first four
+abbrev pub pair_looked : List ℕ → List ℕ → List ℕ → ℕ
+pair_looked t y p = looked t (run y 0 4 ++ run p 4 12)
+
+-- a number of four bytes is put into the lowest four
+xor-into : (v u c : ℕ) → c < 2 ^ 32 → v < 2 ^ 32 → bit_xor c (v + 2 ^ 32 * u) ≡ bit_xor v c + 2 ^ 32 * u
+xor-into v u c hc hv =
+    let a : v + 2 ^ 32 * u ≡ u * 2 ^ 32 + v = omega arith in
+    let z : bit_xor v c + 2 ^ 32 * u ≡ u * 2 ^ 32 + bit_xor v c = omega arith in
+    rw (a, z)
+    (ap (bit_xor c) (sym (xor_shifted u 32 v hv) ∙ xor_comm (u * 2 ^ 32) v) ∙ sym (xor_assoc c v (u * 2 ^ 32)) ∙ ap (λ (y : ℕ). bit_xor y (u * 2 ^ 32)) (xor_comm c v)
+    ∙ xor_comm (bit_xor v c) (u * 2 ^ 32) ∙ xor_shifted u 32 (bit_xor v c) (xor_lt 32 v c hv hc))
+
+-- sixteen bytes: the register is put into the first four
+pub pair-law : (t y p : List ℕ) (c v : ℕ) → Tables t → length p ≡ 16 → Bytes p → c < 2 ^ 32 → v ≡ le (part 0 4 p) → y ≡ le_digits 4 (bit_xor v c) → pair_looked t y p ≡ fed c p
+pair-law t y p c v z n b h q e =
+    let x : ℕ = bit_xor v c in
+    let hv : v < 2 ^ 32 = rw q (le-part-lt p 0 4 (omega arith) b) in
+    let ly : length y ≡ 4 = ap length e ∙ length-le_digits 4 x in
+    let by : Bytes y = rw e (bytes-le_digits 4 x) in
+    let parts : run y 0 4 ++ run p 4 12 ≡ y ++ drop 4 p = ap₂ (λ (i j : List ℕ). i ++ j) (run-drop y 0 4 ly) (run-drop p 4 12 n) in
+    let low : le p ≡ v + 2 ^ 32 * le (drop 4 p) =
+    ap le (sym (ap (λ (s : List ℕ). s ++ drop 4 p) (part-is 0 4 p) ∙ take-append-drop 4 p))
+    ∙ rw (le-append (part 0 4 p) (drop 4 p), length_part p 0 4 (omega arith), ← q) refl in
+    let sum : le (y ++ drop 4 p) ≡ bit_xor c (le p) =
+    rw (le-append y (drop 4 p), ly, e, le-le_digits-fits 4 x (xor_lt 32 v c hv h), low) (sym (xor-into v (le (drop 4 p)) c h hv)) in
+    looked-turns t (get_or y 0 0) (run y 1 3 ++ run p 4 12) z (omega arith) (rw parts (bytes-append y (drop 4 p) by (bytes_drop 4 p b)))
+    ∙ rw (parts, sum) (sym (fed-le p c b ∙ rw n refl))
 
 -- the loop over the sixteens: at its start, and after a turn
-pub none-fed : (s : List ℕ) (r : ℕ) → r ≡ fed r (take 0 s)
+pub none-fed : (ps : List (List ℕ)) (r : ℕ) → r ≡ fed r (concat (take 0 ps))
 unfolding fed
-none-fed s r = refl
+none-fed ps r = refl
 
--- sixteen bytes as two words
-le-pair : (s : List ℕ) (i : ℕ) → i + 16 ≤ length s → le (part i 16 s) ≡ le (part i 8 s) + 2 ^ 64 * le (part (i + 8) 8 s)
-le-pair s i h =
-    rw (part-add s i 8 8, le-append (part i 8 s) (part (i + 8) 8 s), length_part s i 8 (omega arith)) refl
+pub pair-more : (ps : List (List ℕ)) (i r c x : ℕ) → c ≡ fed r (concat (take i ps)) → x ≡ fed c (get_or ps i []) → i < length ps → x ≡ fed r (concat (take (i + 1) ps))
+pair-more ps i r c x p q h =
+    rw (take_more ps i [] h, concat-append (take i ps) (get_or ps i [] ∷ []), append-nil (get_or ps i []), fed-append r (concat (take i ps)) (get_or ps i []), ← p) q
 
-pub pair-more : (s : List ℕ) (i r c v u x : ℕ) → c ≡ fed r (take i s) → v ≡ le (part i 8 s) → u ≡ le (part (i + 8) 8 s)
-    → x ≡ turns 128 (bit_xor v c + 2 ^ 64 * u) → c < 2 ^ 32 → v < 2 ^ 64 → i + 16 ≤ length s → Bytes s
-    → x ≡ fed r (take (i + 16) s)
-pair-more s i r c v u x p q w e hc hv h b =
-    let n : length (part i 16 s) ≡ 16 = length_part s i 16 h in
-    let k : 8 * length (part i 16 s) ≡ 128 = omega arith in
-    let m : bit_xor c (le (part i 16 s)) ≡ bit_xor v c + 2 ^ 64 * u =
-    rw (le-pair s i h, ← q, ← w) (xor-into v u c hc hv) in
-    rw (take-add i 16 s, fed-append r (take i s) (take 16 (drop i s)), ← p, ← part-is i 16 s, fed-le (part i 16 s) c (bytes-part s i 16 b), k, m) e
-  where
-    xor-into : (v u c : ℕ) → c < 2 ^ 32 → v < 2 ^ 64 → bit_xor c (v + 2 ^ 64 * u) ≡ bit_xor v c + 2 ^ 64 * u
-    xor-into v u c hc hv =
-        let a : v + 2 ^ 64 * u ≡ u * 2 ^ 64 + v = omega arith in
-        let z : bit_xor v c + 2 ^ 64 * u ≡ u * 2 ^ 64 + bit_xor v c = omega arith in
-        rw (a, z)
-        (ap (bit_xor c) (sym (xor_shifted u 64 v hv) ∙ xor_comm (u * 2 ^ 64) v) ∙ sym (xor_assoc c v (u * 2 ^ 64)) ∙ ap (λ (y : ℕ). bit_xor y (u * 2 ^ 64)) (xor_comm c v)
-        ∙ xor_comm (bit_xor v c) (u * 2 ^ 64) ∙ xor_shifted u 64 (bit_xor v c) (xor_lt 64 v c hv (omega arith)))
+pub all-pairs : (ps : List (List ℕ)) (i r c : ℕ) → c ≡ fed r (concat (take i ps)) → length ps ≤ i → c ≡ fed r (concat ps)
+all-pairs ps i r c p h = rw (take_all i ps h) at p
 
--- the loop over the single bytes
-pub rest-none : (s : List ℕ) (r i : ℕ) → r ≡ fed r (part i (i - i) s)
-unfolding fed part
-rest-none s r i = rw (sub_self i) refl
-
-pub rest_more : (s : List ℕ) (a i r c x : ℕ) → c ≡ fed r (part a (i - a) s) → x ≡ turns 8 (bit_xor c (get_or s i 0)) → a ≤ i → i < length s
-    → x ≡ fed r (part a (i + 1 - a) s)
+-- the single bytes
+pub bytes-fed : (r : ℕ) (s : List ℕ) → fold (λ c b. turns 8 (bit_xor c b)) r s ≡ fed r s
 unfolding fed
-rest_more s a i r c x p e l h =
-    let w : i + 1 - a ≡ i - a + 1 = omega arith in
-    let y : a + (i - a) ≡ i = omega arith in
-    rw (w, part-add s a (i - a) 1, y, part-suc s i 0 (omega arith), part_none s (suc i), fed-append r (part a (i - a) s) (get_or s i 0 ∷ []), ← p) e
-
-pub rest_all : (s : List ℕ) (a i r c : ℕ) → c ≡ fed r (part a (i - a) s) → a ≤ length s → length s ≤ i → c ≡ fed r (drop a s)
-unfolding part
-rest_all s a i r c p l h = rw (take_all (i - a) (drop a s) (simp length-drop (omega arith))) at p
+bytes-fed r [] = refl
+bytes-fed r (b ∷ bs) = bytes-fed (turns 8 (bit_xor r b)) bs
 
 -- the sixteens and what is left
-pub both-fed : (s : List ℕ) (n r c x : ℕ) → c ≡ fed r (take n s) → x ≡ fed c (drop n s) → x ≡ fed r s
-both-fed s n r c x p q = q ∙ rw p (sym (fed-append r (take n s) (drop n s)) ∙ ap (fed r) (take-append-drop n s))
+chunks-drop : (n k : ℕ) (s : List ℕ) → concat (first_chunks n k s) ++ drop (k * n) s ≡ s
+chunks-drop n zero s = rw (zero-mul n) refl
+chunks-drop n (suc k) s =
+    let e : suc k * n ≡ n + k * n = suc-mul k n ∙ add_comm (k * n) n in
+    rw (e, append_assoc, ← drop-drop (k * n) n s, chunks-drop n k (drop n s)) (take-append-drop n s)
+
+pub both-fed : (s t : List ℕ) (ps : List (List ℕ)) (k r c x : ℕ) → ps ≡ first_chunks 16 k s → t ≡ drop (k * 16) s → c ≡ fed r (concat ps) → x ≡ fold (λ d b. turns 8 (bit_xor d b)) c t → x ≡ fed r s
+both-fed s t ps k r c x f g p q =
+    q ∙ bytes-fed c t ∙ rw (p, f, g) (sym (fed-append r (concat (first_chunks 16 k s)) (drop (k * 16) s)) ∙ ap (fed r) (chunks-drop 16 k s))

@@ -6,13 +6,14 @@ use Prim.Native.Nat.{ℕ, zero, suc, ◌+◌, ◌-◌, ◌*◌, ◌/◌, ◌%◌
 use native.Mathlib.Nat.{add-zero, add-suc, add_comm, zero-add, sub_self}
 use native.Mathlib.Omega.{arith}
 use lib.Bits.{bit_xor, xor_zero_l, xor_zero_r, xor_shifted}
-use lib.ListN.{length, get_or, set, take, replicate, length-set, length-append, length-replicate}
-use lib.Seq.{get_or-set_same, take-add, take_all, take-suc, take-set-le}
+use lib.ListN.{length, get_or, set, take, replicate, length-append, length-replicate}
+use lib.Seq.{take_all}
+use Rattle.std.proofs.lemmas.List.{take_more, take_more_set}
 use Rattle.rules.specs.Bytes.{le_digits, part, patch}
-use Rattle.rules.proofs.ByteLaws.{length-le_digits, length_part, part-add, part-suc, part_none, get_d_part, get_or-patch, get_or-patch-before, patch-before}
-use Rattle.words.proofs.NumberLaws.{part-is}
+use Rattle.rules.proofs.ByteLaws.{length-le_digits, length_part, get_d_part, get_or-patch, get_or-patch-before, patch-before}
 use Rattle.crc32c_tables.specs.Register.{turns, fed}
 use Rattle.crc32c_window.specs.Window.{tap_sum, stands, latest, taps, register_at, Clear}
+use Rattle.crc32c_tables.proofs.XorLaws.{xor_assoc}
 use Rattle.crc32c_tables.proofs.RegisterLaws.{fed-append}
 use Rattle.crc32c_window.proofs.HistoryLaws.{share, share-zero, stands-snoc, stands-cons, stands-next, stands-zeros, get_or-zeros}
 use Rattle.crc32c_window.proofs.LatestLaws.{length-latest, latest-cons, latest-snoc, latest-moved, latest-zeros, latest-new, get_or-latest}
@@ -69,15 +70,13 @@ register-set w x y c p q l h =
 
 -- ---- bytes taken in
 
-pub taken_none : (w s : List ℕ) (at : ℕ) → register_at w (528 + 0) ≡ fed (register_at w 528) (part at 0 s)
-unfolding fed part
-taken_none w s at = refl
+pub taken_none : (w s : List ℕ) → register_at w (528 + 0) ≡ fed (register_at w 528) (take 0 s)
+unfolding fed
+taken_none w s = refl
 
--- the bytes that are added, as the code reads them
-abbrev added : List ℕ → ℕ → ℕ
-added w i = bit_xor (get_or w (i + 400) 0) (bit_xor (get_or w (i + 224) 0) (bit_xor (get_or w (i + 175) 0) (bit_xor (get_or w (i + 103) 0) (get_or w i 0))))
-
-added-taps : (w : List ℕ) (i e n : ℕ) → e ≡ 528 + i → 528 ≤ n → n ≤ e → tap_sum taps (latest w e n) ≡ added w i
+-- the bytes that are added, as the code reads them, where all of a history or its newest 528 bytes are looked at
+added-taps : (w : List ℕ) (i e n : ℕ) → e ≡ 528 + i → 528 ≤ n → n ≤ e
+    → tap_sum taps (latest w e n) ≡ bit_xor (bit_xor (bit_xor (bit_xor (get_or w (i + 400) 0) (get_or w (i + 224) 0)) (get_or w (i + 175) 0)) (get_or w (i + 103) 0)) (get_or w i 0)
 unfolding tap_sum
 added-taps w i e n q l h =
     rw (
@@ -87,39 +86,44 @@ added-taps w i e n q l h =
       get_or-latest w e n 424 (i + 103) (omega arith) (omega arith),
       get_or-latest w e n 527 i (omega arith) (omega arith),
       xor_zero_r (get_or w i 0),
-    ) refl
+    ) (simp xor_assoc)
+
+pub added-is : (w : List ℕ) (i : ℕ)
+    → bit_xor (bit_xor (bit_xor (bit_xor (get_or w (i + 400) 0) (get_or w (i + 224) 0)) (get_or w (i + 175) 0)) (get_or w (i + 103) 0)) (get_or w i 0) ≡ tap_sum taps (latest w (528 + i) 528)
+added-is w i = sym (added-taps w i (528 + i) 528 refl (omega arith) (omega arith))
 
 -- one byte
 fed-one : (r v : ℕ) → fed r (v ∷ []) ≡ turns 8 (bit_xor r v)
 unfolding fed
 fed-one r v = refl
 
--- one byte more of a part
-fed-byte : (s : List ℕ) (at i r : ℕ) → at + i < length s → fed r (part at (i + 1) s) ≡ turns 8 (bit_xor (fed r (part at i s)) (get_or s (at + i) 0))
-fed-byte s at i r h =
-    rw (part-add s at i 1, part-suc s (at + i) 0 h, part_none s (suc (at + i)), fed-append r (part at i s) (get_or s (at + i) 0 ∷ []))
-    (fed-one (fed r (part at i s)) (get_or s (at + i) 0))
+-- one byte more
+fed-byte : (s : List ℕ) (i r : ℕ) → i < length s → fed r (take (i + 1) s) ≡ turns 8 (bit_xor (fed r (take i s)) (get_or s i 0))
+fed-byte s i r h = rw (take_more s i 0 h, fed-append r (take i s) (get_or s i 0 ∷ [])) (fed-one (fed r (take i s)) (get_or s i 0))
 
-pub taken_more : (w s : List ℕ) (i at r : ℕ) → register_at w (528 + i) ≡ fed r (part at i s) → get_or w i 0 < 256 → i + 528 < length w → at + i < length s
-    → register_at (set w (i + 528) (bit_xor (get_or s (at + i) 0) (added w i))) (528 + (i + 1)) ≡ fed r (part at (i + 1) s)
+pub taken_more : (w s : List ℕ) (i r a : ℕ) → register_at w (528 + i) ≡ fed r (take i s) → a ≡ tap_sum taps (latest w (528 + i) 528) → get_or w i 0 < 256 → i + 528 < length w → i < length s
+    → register_at (set w (i + 528) (bit_xor (get_or s i 0) a)) (528 + (i + 1)) ≡ fed r (take (i + 1) s)
 unfolding register_at
-taken_more w s i at r p o hw hs =
-    let a : i + 528 ≡ 528 + i = omega arith in
+taken_more w s i r a p t o hw hs =
+    let m : i + 528 ≡ 528 + i = omega arith in
     let b : 528 + (i + 1) ≡ suc (528 + i) = omega arith in
     let l : length h ≡ 527 = length-latest w (528 + i) 527 (omega arith) in
     let q : latest w (528 + i) 528 ≡ h ++ (get_or w i 0 ∷ []) = latest-snoc w (528 + i) 527 i refl in
     let z : share taps (suc (length h)) (get_or w i 0) ≡ 0 = rw l (share-gone (get_or w i 0) o) in
-    let e : bit_xor x (added w i) ≡ bit_xor x (tap_sum taps (h ++ (get_or w i 0 ∷ []))) = ap (bit_xor x) (sym (rw (← q) (added-taps w i (528 + i) 528 refl (omega arith) (omega arith)))) in
-    rw (a, b)
-    (ap (stands taps) (latest-new w (528 + i) 527 (bit_xor x (added w i)) (omega arith))
-    ∙ stands-next taps h (get_or w i 0) (bit_xor x (added w i)) x z e
-    ∙ ap (λ (y : ℕ). turns 8 (bit_xor y x)) (ap (stands taps) (sym q) ∙ p) ∙ sym (fed-byte s at i r hs))
+    let e : bit_xor x a ≡ bit_xor x (tap_sum taps (h ++ (get_or w i 0 ∷ []))) = ap (bit_xor x) (t ∙ ap (tap_sum taps) q) in
+    rw (m, b)
+    (ap (stands taps) (latest-new w (528 + i) 527 (bit_xor x a) (omega arith))
+    ∙ stands-next taps h (get_or w i 0) (bit_xor x a) x z e
+    ∙ ap (λ (y : ℕ). turns 8 (bit_xor y x)) (ap (stands taps) (sym q) ∙ p) ∙ sym (fed-byte s i r hs))
   where
     h : List ℕ
     h = latest w (528 + i) 527
 
     x : ℕ
-    x = get_or s (at + i) 0
+    x = get_or s i 0
+
+pub taken_all : (w s : List ℕ) (i r : ℕ) → register_at w (528 + i) ≡ fed r (take i s) → i ≡ length s → register_at w (528 + length s) ≡ fed r s
+taken_all w s i r p e = rw (← e) (p ∙ ap (fed r) (take_all i s (omega arith)))
 
 -- ---- moved down
 
@@ -135,16 +139,13 @@ moved w v n r e p l =
 
 -- ---- piece after piece
 
-pub pushed_none : (w s : List ℕ) → register_at w 528 ≡ fed (register_at w 528) (take 0 s)
+-- the pieces that are left give the rest of the register
+pub pushed_more : (r x y : ℕ) (all piece rest s : List ℕ) → fed x all ≡ fed r s → y ≡ fed x piece → all ≡ piece ++ rest → fed y rest ≡ fed r s
+pushed_more r x y all piece rest s p q e = rw q (sym (fed-append x piece rest) ∙ ap (fed x) (sym e) ∙ p)
+
+pub pushed-all : (r x : ℕ) (rest s : List ℕ) → fed x rest ≡ fed r s → rest ≡ [] → x ≡ fed r s
 unfolding fed
-pushed_none w s = refl
-
-pub pushed_more : (s : List ℕ) (at n r x y : ℕ) → x ≡ fed r (take at s) → y ≡ fed x (part at n s) → y ≡ fed r (take (at + n) s)
-pushed_more s at n r x y p q =
-    q ∙ rw p (sym (fed-append r (take at s) (part at n s)) ∙ ap (fed r) (rw (part-is at n s) (sym (take-add at n s))))
-
-pub pushed-all : (s : List ℕ) (at r x : ℕ) → x ≡ fed r (take at s) → length s ≤ at → x ≡ fed r s
-pushed-all s at r x p l = rw (take_all at s l) at p
+pushed-all r x rest s p e = rw e at p
 
 -- ---- the message that is left
 
@@ -162,20 +163,17 @@ pub settled-none : (z u : List ℕ) → Clear z 528 → fed 0 (take 0 u) ≡ sta
 unfolding fed stands latest
 settled-none z u k = sym (stands-trim z 0 528 528 (omega arith) k.zeros)
 
-pub settled-more : (z u : List ℕ) (j : ℕ) → fed 0 (take j u) ≡ stands taps (latest z (528 + j) (528 + j)) → j < length u
-    → fed 0 (take (j + 1) (set u j (bit_xor (get_or z (j + 528) 0) (added z j)))) ≡ stands taps (latest z (528 + (j + 1)) (528 + (j + 1)))
-settled-more z u j p h =
+pub settled-more : (z u : List ℕ) (j a : ℕ) → fed 0 (take j u) ≡ stands taps (latest z (528 + j) (528 + j)) → a ≡ tap_sum taps (latest z (528 + j) 528) → j < length u
+    → fed 0 (take (j + 1) (set u j (bit_xor (get_or z (j + 528) 0) a))) ≡ stands taps (latest z (528 + (j + 1)) (528 + (j + 1)))
+settled-more z u j a p q h =
     let b : 528 + (j + 1) ≡ suc (528 + j) = omega arith in
-    let t : tap_sum taps (latest z (528 + j) (528 + j)) ≡ added z j = added-taps z j (528 + j) (528 + j) refl (omega arith) (omega arith) in
-    stored (bit_xor (get_or z (j + 528) 0) (added z j))
+    let t : tap_sum taps (latest z (528 + j) (528 + j)) ≡ a = added-taps z j (528 + j) (528 + j) refl (omega arith) (omega arith) ∙ added-is z j ∙ sym q in
+    stored (bit_xor (get_or z (j + 528) 0) a)
     ∙ rw (b, add_comm j 528, p, ← t)
     (sym (ap (stands taps) (latest-cons z (528 + j) (528 + j)) ∙ stands-cons taps (get_or z (528 + j) 0) (latest z (528 + j) (528 + j))))
   where
     stored : (v : ℕ) → fed 0 (take (j + 1) (set u j v)) ≡ turns 8 (bit_xor (fed 0 (take j u)) v)
-    stored v =
-        let s : j + 1 ≡ suc j = omega arith in
-        let n : j < length (set u j v) = rw (length-set u j v) h in
-        rw (s, take-suc (set u j v) j 0 n, take-set-le j u j v (omega arith), get_or-set_same u j v 0 h) (fed-append 0 (take j u) (v ∷ []) ∙ fed-one (fed 0 (take j u)) v)
+    stored v = rw (take_more_set u j v h) (fed-append 0 (take j u) (v ∷ []) ∙ fed-one (fed 0 (take j u)) v)
 
 pub settled-all : (z u : List ℕ) (j : ℕ) → fed 0 (take j u) ≡ stands taps (latest z (528 + j) (528 + j)) → 528 ≤ j → j ≤ 528 → length u ≡ 528 → Clear z 528
     → fed 0 u ≡ register_at z 1056

@@ -6,10 +6,9 @@
 // multiple of sixteen: they are read as they were stored.
 #![tactic(auto)]
 
-ghost use Rattle.std.specs.Prelude.{◌≡◌, ◌+◌, ◌≤◌, ◌<◌, length};
-ghost use Rattle.rules.specs.Bytes.{part};
+ghost use Rattle.std.specs.Prelude.{◌≡◌, ◌+◌, ◌≤◌, ◌<◌, length, slice_index};
 ghost use Rattle.crc32c_tables.specs.Register.{fed, Tables};
-ghost use Rattle.crc32c_window.specs.Window.{register_at, Clear};
+ghost use Rattle.crc32c_window.specs.Window.{tap_sum, taps, latest, register_at, Clear};
 
 // The window stands for `c`.
 pub fn set_register(w: &mut [u8], c: u32)
@@ -20,40 +19,35 @@ pub fn set_register(w: &mut [u8], c: u32)
     words::put_le32(w, 0, c);
 }
 
-// The `n` bytes of `s` from `at` on come in above the first 528.
-fn take_in(w: &mut [u8], s: &[u8], at: usize, n: usize)
-    requires w_len { length w.old ≡ 4624 }
-    requires n_bound { n ≤ 4096 }
-    requires n_in_bounds { at + n ≤ length s.now }
-    ensures { register_at w.new (528 + n) ≡ fed (register_at w.old 528) (part at n s.now) }
+// What is added to the byte at `i + 528`: the sum of the bytes at the other places of the multiple. The byte at `i`,
+// the oldest of them, is read here alone, so that its range is known from here.
+fn added(w: &[u8], i: usize) -> u8
+    requires { i + 528 ≤ length w.now }
+    ensures sum { result ≡ tap_sum taps (latest w.now (528 + i) 528) }
+    ensures oldest_fits { slice_index w.now i < 256 }
 {
-    let mut i: usize = 0;
-    while i < n {
-        w[i + 528] = s[at + i] ^ (w[i + 400] ^ (w[i + 224] ^ (w[i + 175] ^ (w[i + 103] ^ w[i]))));
-        i += 1;
+    w[i + 400] ^ w[i + 224] ^ w[i + 175] ^ w[i + 103] ^ w[i]
+}
+
+// The bytes of `s` come in above the first 528.
+fn take_in(w: &mut [u8], s: &[u8])
+    requires w_len { length w.old ≡ 4624 }
+    requires s_len { length s.now ≤ 4096 }
+    ensures { register_at w.new (528 + length s.now) ≡ fed (register_at w.old 528) s.now }
+{
+    for (i, b) in s.iter().enumerate() {
+        w[i + 528] = *b ^ added(w, i);
     }
 }
 
 // They come in, and the last 528 bytes move down to the first places.
-fn push_part(w: &mut [u8], s: &[u8], at: usize, n: usize)
+fn push_piece(w: &mut [u8], s: &[u8])
     requires w_len { length w.old ≡ 4624 }
-    requires n_bound { n ≤ 4096 }
-    requires n_in_bounds { at + n ≤ length s.now }
-    ensures { register_at w.new 528 ≡ fed (register_at w.old 528) (part at n s.now) }
+    requires s_len { length s.now ≤ 4096 }
+    ensures { register_at w.new 528 ≡ fed (register_at w.old 528) s.now }
 {
-    take_in(w, s, at, n);
-    words::range::move_down(w, n, n + 528, n);
-}
-
-// How many of the bytes that are left come in at once.
-fn at_once(left: usize) -> usize
-    requires { 0 < left }
-    ensures { (result ≤ left) × (result ≤ 4096) × (0 < result) }
-{
-    if left < 4096 {
-        return left;
-    }
-    4096
+    take_in(w, s);
+    words::range::move_down(w, s.len(), s.len() + 528, s.len());
 }
 
 // The window stands for the register after `s` more.
@@ -61,25 +55,18 @@ pub fn push(w: &mut [u8], s: &[u8])
     requires { length w.old ≡ 4624 }
     ensures { register_at w.new 528 ≡ fed (register_at w.old 528) s.now }
 {
-    let mut at: usize = 0;
-    while at < s.len() {
-        let n = at_once(s.len() - at);
-        push_part(w, s, at, n);
-        at += n;
+    for piece in s.chunks(4096) {
+        push_piece(w, piece);
     }
 }
 
 // The message of 528 bytes that the upper half of `z` stands for; the lower half is zero.
-fn settle(z: &[u8], u: &mut [u8])
-    requires z_len { length z.now ≡ 1056 }
-    requires u_len { length u.old ≡ 528 }
-    requires clear { Clear z.now 528 }
+fn settle(z: &[u8; 1056], u: &mut [u8; 528])
+    requires { Clear z.now 528 }
     ensures { fed 0 u.new ≡ register_at z.now 1056 }
 {
-    let mut j: usize = 0;
-    while j < 528 {
-        u[j] = z[j + 528] ^ (z[j + 400] ^ (z[j + 224] ^ (z[j + 175] ^ (z[j + 103] ^ z[j]))));
-        j += 1;
+    for (j, b) in u.iter_mut().enumerate() {
+        *b = z[j + 528] ^ added(z, j);
     }
 }
 

@@ -1,19 +1,22 @@
 -- Laws of packed fields in the words that hold them: those of head and card, with the fields that lie across a seam between two words.
 -- Assumes nothing.
 use mathlib.Core.Path.{◌≡◌, refl, sym, ap, ap₂, ◌∙◌}
-use mathlib.Core.List.{List, [], ◌∷◌}
+use mathlib.Core.List.{List, [], ◌∷◌, ◌++◌}
 use Prim.Native.Nat.{ℕ, ◌+◌, ◌*◌, ◌/◌, ◌%◌, ◌^◌, ◌≤◌, ◌<◌}
-use native.Mathlib.Nat.{add-mul, add_assoc, mul_assoc, mod-lt}
+use native.Mathlib.Nat.{zero-add, add-mul, add_assoc, mul_assoc, mod-lt}
 use native.Mathlib.Omega.{arith}
 use lib.Arith.{digits_lt}
-use lib.ListN.{length}
+use lib.ListN.{length, take, get_or}
+use Rattle.std.proofs.Common.{rules}
+use Rattle.std.proofs.lemmas.List.{places, same_lists, take_more}
+use Rattle.std.proofs.lemmas.List.Sums.{fold-append}
 use lib.Pow.{pow_pos, pow-add, high, low, split, shr_lt, mod-pow-add}
 use Rattle.rules.specs.Bytes.{be, be_digits, part, patch, bits_of, unpack, pack}
 use Rattle.rules.specs.Head.{head_widths}
 use Rattle.rules.specs.Card.{card_bytes, card_widths}
-use Rattle.rules.proofs.ByteLaws.{length-be_digits, patch-patch}
+use Rattle.rules.proofs.ByteLaws.{length-be_digits, patch-none, patch-patch}
 use Rattle.rules.proofs.FieldLaws.{Fit, fit_none, fit-one, unpack-pack}
-use Rattle.fields.specs.Fields.{six_words}
+use Rattle.fields.specs.Fields.{joined}
 use Rattle.words.proofs.NumberLaws.{be-two, be_digits-add}
 
 -- values that keep within their widths are the fields of the number that they pack to
@@ -61,6 +64,10 @@ head-fields w0 w1 h0 h1 =
 
 -- ---- a card: six words of 64 bits
 
+-- six words as one number, the first the most significant
+abbrev pub six_words : ℕ → ℕ → ℕ → ℕ → ℕ → ℕ → ℕ
+six_words w0 w1 w2 w3 w4 w5 = ((((w0 * 2 ^ 64 + w1) * 2 ^ 64 + w2) * 2 ^ 64 + w3) * 2 ^ 64 + w4) * 2 ^ 64 + w5
+
 -- a word more: what stands whole before the seam is shifted, and what the seam cut is joined
 carry : (h k m t w : ℕ) {r : ℕ} → t * m + w ≡ r → (h * k + t) * m + w ≡ h * (k * m) + r
 carry h k m t w {r} e = ap (λ (n : ℕ). n + w) (add-mul (h * k) t m) ∙ add_assoc (h * k * m) (t * m) w ∙ ap₂ (λ (i j : ℕ). i + j) (mul_assoc h k m) e
@@ -91,10 +98,6 @@ module _ (o z a s n x y p : ℕ) where
       ap (λ (m : ℕ). ((m * w + w3) * w + w4) * w + w5) e2 ∙ ap (λ (m : ℕ). (m * w + w4) * w + w5) e3 ∙ ap (λ (m : ℕ). m * w + w5) e4
       ∙ carry o (2 ^ 256) w _ w5 (carry z (2 ^ 193) w _ w5 (carry a (2 ^ 158) w _ w5 (carry s (2 ^ 95) w _ w5 (carry n (2 ^ 65) w t4 w5 s5))))
 
--- the card's fourth word has 64 bits: it is made of three fields
-pub fourth-lt : (s n x : ℕ) → n < 2 ^ 30 → x < 2 ^ 63 → s % 2 ^ 33 * 2 ^ 31 + n * 2 + x / 2 ^ 62 < 2 ^ 64
-fourth-lt s n x h k = rw (add_assoc (s % 2 ^ 33 * 2 ^ 31) (n * 2) (x / 2 ^ 62)) (join-lt 33 31 (mod-lt s (pow_pos 33)) (join-lt 30 1 h (shr_lt 1 62 k)))
-
 -- three parts of a word
 three : (a b c m n : ℕ) → m ≡ b + c → a + m ≡ n → a + b + c ≡ n
 three a b c m n p q = omega arith
@@ -124,6 +127,14 @@ module _ (w0 w1 w2 w3 w4 w5 : ℕ) (h0 : w0 < 2 ^ 64) (h1 : w1 < 2 ^ 64) (h2 : w
       (fit-one (seam-lt w3 w4 1 62 2 h4) (fit-one (seam-lt w4 w5 2 28 36 h5) (fit-one (mod-lt w5 (pow_pos 36)) fit_none))))))))
       (sym (six w0 w1 w2 w3 w4 w5 e1 e2 e3 e4 e5) ∙ card-words w0 (w1 / 2) a s (w3 / 2 % 2 ^ 30) x y (w5 % 2 ^ 36))
 
+-- the fields in an array of six words
+pub card-of : (w : List ℕ) → length w ≡ 6 → ((i : ℕ) → get_or w i 0 < 2 ^ 64) → (let w0 : ℕ = get_or w 0 0 in let w1 : ℕ = get_or w 1 0 in let w2 : ℕ = get_or w 2 0 in let w3 : ℕ = get_or w 3 0 in let w4 : ℕ = get_or w 4 0 in let w5 : ℕ = get_or w 5 0 in
+    (w0 ∷ w1 / 2 ∷ (w1 % 2 * 2 ^ 34 + w2 / 2 ^ 30) ∷ (w2 % 2 ^ 30 * 2 ^ 33 + w3 / 2 ^ 31) ∷ w3 / 2 % 2 ^ 30 ∷ (w3 % 2 * 2 ^ 62 + w4 / 2 ^ 2) ∷ (w4 % 2 ^ 2 * 2 ^ 28 + w5 / 2 ^ 36) ∷ w5 % 2 ^ 36 ∷ [])
+    ≡ unpack card_widths (joined w))
+card-of w n h =
+    let e : w ≡ get_or w 0 0 ∷ get_or w 1 0 ∷ get_or w 2 0 ∷ get_or w 3 0 ∷ get_or w 4 0 ∷ get_or w 5 0 ∷ [] = same_lists _ _ (search (rules, places)) (λ k d l. grind (arith, places)) in
+    card-fields _ _ _ _ _ _ (h 0) (h 1) (h 2) (h 3) (h 4) (h 5) ∙ ap (λ (v : List ℕ). unpack card_widths (joined v)) (sym e)
+
 -- ---- in the slice
 
 pub head_read : (s vs : List ℕ) (at w0 w1 : ℕ) → at + 12 ≤ length s → w0 ≡ be (part at 8 s) → w1 ≡ be (part (at + 8) 4 s) → vs ≡ unpack head_widths (w0 * 2 ^ 32 + w1)
@@ -148,19 +159,19 @@ pub head-put : (s x y : List ℕ) (at w0 w1 n : ℕ) → x ≡ patch s at (be_di
     → y ≡ patch s at (be_digits 12 n)
 head-put s x y at w0 w1 n p q l h e = rw (← e) (put_two s x y at (at + 8) 8 4 w0 w1 p q refl h l)
 
--- three words written side by side
-pub three-put : (s x y z : List ℕ) (at a b c : ℕ) → x ≡ patch s at (be_digits 8 a) → y ≡ patch x (at + 8) (be_digits 8 b) → z ≡ patch y (at + 16) (be_digits 8 c) → at + 24 ≤ length s → b < 2 ^ 64 → c < 2 ^ 64
-    → z ≡ patch s at (be_digits 24 ((a * 2 ^ 64 + b) * 2 ^ 64 + c))
-three-put s x y z at a b c p q r l h k =
-    put_two s y z at (at + 16) 16 8 (a * 2 ^ 64 + b) c (put_two s x y at (at + 8) 8 8 a b p q refl h (omega arith)) r refl k l
+-- ---- words written one behind the other
 
--- six words are two numbers of three
-six-three : (k w3 w4 w5 : ℕ) → ((k * 2 ^ 64 + w3) * 2 ^ 64 + w4) * 2 ^ 64 + w5 ≡ k * 2 ^ 192 + ((w3 * 2 ^ 64 + w4) * 2 ^ 64 + w5)
-six-three k w3 w4 w5 = ap (λ (m : ℕ). m * 2 ^ 64 + w5) (carry k (2 ^ 64) (2 ^ 64) w3 w4 refl) ∙ carry k (2 ^ 128) (2 ^ 64) (w3 * 2 ^ 64 + w4) w5 refl
+joined-snoc : (ws : List ℕ) (w : ℕ) → joined (ws ++ (w ∷ [])) ≡ joined ws * 2 ^ 64 + w
+joined-snoc [] w = sym (zero-add w)
+joined-snoc (v ∷ ws) w = fold-append _ v ws (w ∷ [])
 
-pub card-put : (s x y : List ℕ) (at w0 w1 w2 w3 w4 w5 n : ℕ) → x ≡ patch s at (be_digits 24 ((w0 * 2 ^ 64 + w1) * 2 ^ 64 + w2)) → y ≡ patch x (at + 24) (be_digits 24 ((w3 * 2 ^ 64 + w4) * 2 ^ 64 + w5))
-    → at + card_bytes ≤ length s → w3 < 2 ^ 64 → w4 < 2 ^ 64 → w5 < 2 ^ 64 → six_words w0 w1 w2 w3 w4 w5 ≡ n
-    → y ≡ patch s at (be_digits card_bytes n)
-card-put s x y at w0 w1 w2 w3 w4 w5 n p q l h3 h4 h5 e =
-    let k : ℕ = (w0 * 2 ^ 64 + w1) * 2 ^ 64 + w2 in
-    rw (← e, six-three k w3 w4 w5) (put_two s x y at (at + 24) 24 24 k ((w3 * 2 ^ 64 + w4) * 2 ^ 64 + w5) p q refl (join-lt 128 64 (join-lt 64 64 h3 h4) h5) l)
+pub words-none : (s ws : List ℕ) (at : ℕ) → s ≡ patch s at (be_digits (8 * 0) (joined (take 0 ws)))
+unfolding be_digits
+words-none s ws at = sym (patch-none s at)
+
+pub words-more : (s x y ws : List ℕ) (at i : ℕ) → x ≡ patch s at (be_digits (8 * i) (joined (take i ws))) → y ≡ patch x (at + 8 * i) (be_digits 8 (get_or ws i 0)) → i < length ws
+    → get_or ws i 0 < 2 ^ 64 → at + (8 * i + 8) ≤ length s
+    → y ≡ patch s at (be_digits (8 * (i + 1)) (joined (take (i + 1) ws)))
+words-more s x y ws at i p q h b l =
+    let e : 8 * (i + 1) ≡ 8 * i + 8 = omega arith in
+    rw (e, take_more ws i 0 h, joined-snoc) (put_two s x y at (at + 8 * i) (8 * i) 8 (joined (take i ws)) (get_or ws i 0) p q refl b l)

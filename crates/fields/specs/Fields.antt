@@ -1,6 +1,7 @@
 -- Document 01, "Head" and "Card": the values of the packed fields in their order, and that they keep within their widths.
 -- Assumes nothing.
 use Rattle.std.specs.Prelude.{List, [], ◌∷◌, ℕ, ◌+◌, ◌*◌, ◌^◌, ◌<◌}
+use Rattle.std.specs.List.{fold}
 use Rattle.fields.specs.declared.Head.{Head}
 use Rattle.fields.specs.declared.Card.{Card}
 
@@ -17,9 +18,10 @@ pub record HeadFits (h : Head) : Type 0 where
   pub extents : h.extents < 2 ^ 20
   pub groups : h.groups < 2 ^ 20
 
--- six words of 64 bits as one number, the first the most significant
-abbrev pub six_words : ℕ → ℕ → ℕ → ℕ → ℕ → ℕ → ℕ
-six_words w0 w1 w2 w3 w4 w5 = ((((w0 * 2 ^ 64 + w1) * 2 ^ 64 + w2) * 2 ^ 64 + w3) * 2 ^ 64 + w4) * 2 ^ 64 + w5
+-- words of 64 bits as one number, the first the most significant
+abbrev pub joined : List ℕ → ℕ
+joined [] = 0
+joined (w ∷ ws) = fold (λ n x. n * 2 ^ 64 + x) w ws
 
 -- a card's fields in the order of the rules' cardWidths
 abbrev pub card_values : Card → List ℕ

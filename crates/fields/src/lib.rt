@@ -1,11 +1,15 @@
 // The packed fields of head and card, the most significant bit first: out of the words that hold them, and back.
+//
+// Kept: functions for each of the two, as every shift differs, and no integer holds the 384 bits of a card: one
+// function over a list of widths would have to find the seams between words by itself.
+// Kept: `format` has structs of the names Head and Card too, as its Head has the uuid and its Card no spare bits.
 #![tactic(auto)]
 
 ghost use Rattle.std.specs.Prelude.{◌≡◌, ◌+◌, ◌*◌, ◌^◌, ◌≤◌, ◌<◌, length};
 ghost use Rattle.rules.specs.Bytes.{be, be_digits, part, patch, unpack, pack};
 ghost use Rattle.rules.specs.Head.{head_widths};
 ghost use Rattle.rules.specs.Card.{card_bytes, card_widths};
-ghost use Rattle.fields.specs.Fields.{head_values, HeadFits, six_words, card_values, CardFits};
+ghost use Rattle.fields.specs.Fields.{head_values, HeadFits, joined, card_values, CardFits};
 
 // The 96 bits that follow the uuid in a head.
 #[derive(Clone, Copy)]
@@ -55,9 +59,10 @@ pub fn read_head(s: &[u8], at: usize) -> Head
 }
 
 // The fields of a card in six words; `allocated`, `seconds` and both numbers of the creation time lie across a seam.
-pub fn card_of(w0: u64, w1: u64, w2: u64, w3: u64, w4: u64, w5: u64) -> Card
-    ensures { card_values result ≡ unpack card_widths (six_words w0 w1 w2 w3 w4 w5) }
+pub fn card_of(w: [u64; 6]) -> Card
+    ensures { card_values result ≡ unpack card_widths (joined w) }
 {
+    let [w0, w1, w2, w3, w4, w5] = w;
     Card {
         object: w0,
         size: w1 / 2,
@@ -75,63 +80,46 @@ pub fn read_card(s: &[u8], at: usize) -> Card
     requires { at + card_bytes ≤ length s.now }
     ensures { card_values result ≡ unpack card_widths (be (part at card_bytes s.now)) }
 {
-    let w0 = words::be64(s, at);
-    let w1 = words::be64(s, at + 8);
-    let w2 = words::be64(s, at + 16);
-    let w3 = words::be64(s, at + 24);
-    let w4 = words::be64(s, at + 32);
-    let w5 = words::be64(s, at + 40);
-    card_of(w0, w1, w2, w3, w4, w5)
+    card_of([
+        words::be64(s, at),
+        words::be64(s, at + 8),
+        words::be64(s, at + 16),
+        words::be64(s, at + 24),
+        words::be64(s, at + 32),
+        words::be64(s, at + 40),
+    ])
 }
 
-// The two words of a head.
-#[derive(Clone, Copy)]
-pub struct HeadWords {
-    pub w0: u64,
-    pub w1: u32,
-}
-
-// The six words of a card.
-#[derive(Clone, Copy)]
-pub struct CardWords {
-    pub w0: u64,
-    pub w1: u64,
-    pub w2: u64,
-    pub w3: u64,
-    pub w4: u64,
-    pub w5: u64,
-}
-
-// A head's fields, packed.
-pub fn head_words(h: Head) -> HeadWords
+// A head's fields, packed: a word of 64 bits and one of 32.
+pub fn head_words(h: Head) -> (u64, u32)
     requires { HeadFits h }
-    ensures { result.w0 * 2 ^ 32 + result.w1 ≡ pack head_widths (head_values h) }
+    ensures { result.0 * 2 ^ 32 + result.1 ≡ pack head_widths (head_values h) }
 {
-    HeadWords {
-        w0: h.blocks * 0x8000_0000_0000
+    (
+        h.blocks * 0x8000_0000_0000
             + h.reserved * 0x4000_0000
             + h.hint * 0x1000_0000
             + h.cards * 0x100
             + h.extents / 0x1000,
-        w1: (h.extents % 0x1000 * 0x10_0000 + h.groups) as u32,
-    }
+        (h.extents % 0x1000 * 0x10_0000 + h.groups) as u32,
+    )
 }
 
-// A card's fields, packed.
-pub fn card_words(c: Card) -> CardWords
+// A card's fields, packed in six words.
+pub fn card_words(c: Card) -> [u64; 6]
     requires { CardFits c }
-    ensures { six_words result.w0 result.w1 result.w2 result.w3 result.w4 result.w5 ≡ pack card_widths (card_values c) }
+    ensures { joined result ≡ pack card_widths (card_values c) }
 {
-    CardWords {
-        w0: c.object,
-        w1: c.size * 2 + c.allocated / 0x4_0000_0000,
-        w2: c.allocated % 0x4_0000_0000 * 0x4000_0000 + c.seconds / 0x2_0000_0000,
-        w3: c.seconds % 0x2_0000_0000 * 0x8000_0000
+    [
+        c.object,
+        c.size * 2 + c.allocated / 0x4_0000_0000,
+        c.allocated % 0x4_0000_0000 * 0x4000_0000 + c.seconds / 0x2_0000_0000,
+        c.seconds % 0x2_0000_0000 * 0x8000_0000
             + c.nanoseconds * 2
             + c.created_seconds / 0x4000_0000_0000_0000,
-        w4: c.created_seconds % 0x4000_0000_0000_0000 * 4 + c.created_nanoseconds / 0x1000_0000,
-        w5: c.created_nanoseconds % 0x1000_0000 * 0x10_0000_0000 + c.spare,
-    }
+        c.created_seconds % 0x4000_0000_0000_0000 * 4 + c.created_nanoseconds / 0x1000_0000,
+        c.created_nanoseconds % 0x1000_0000 * 0x10_0000_0000 + c.spare,
+    ]
 }
 
 // The packed bits of a head, at `at`.
@@ -140,19 +128,9 @@ pub fn put_head(s: &mut [u8], at: usize, h: Head)
     requires head_fits { HeadFits h }
     ensures { s.new ≡ patch s.old at (be_digits 12 (pack head_widths (head_values h))) }
 {
-    let w = head_words(h);
-    words::put_be64(s, at, w.w0);
-    words::put_be32(s, at + 8, w.w1);
-}
-
-// Three words side by side, at `at`.
-fn put_three(s: &mut [u8], at: usize, a: u64, b: u64, c: u64)
-    requires { at + 24 ≤ length s.old }
-    ensures { s.new ≡ patch s.old at (be_digits 24 ((a * 2 ^ 64 + b) * 2 ^ 64 + c)) }
-{
-    words::put_be64(s, at, a);
-    words::put_be64(s, at + 8, b);
-    words::put_be64(s, at + 16, c);
+    let (w0, w1) = head_words(h);
+    words::put_be64(s, at, w0);
+    words::put_be32(s, at + 8, w1);
 }
 
 // A card, at `at`.
@@ -161,7 +139,8 @@ pub fn put_card(s: &mut [u8], at: usize, c: Card)
     requires card_fits { CardFits c }
     ensures { s.new ≡ patch s.old at (be_digits card_bytes (pack card_widths (card_values c))) }
 {
-    let w = card_words(c);
-    put_three(s, at, w.w0, w.w1, w.w2);
-    put_three(s, at + 24, w.w3, w.w4, w.w5);
+    let words = card_words(c);
+    for (i, w) in words.iter().enumerate() {
+        words::put_be64(s, at + 8 * i, *w);
+    }
 }

@@ -1,18 +1,19 @@
--- Laws of numbers in bytes, in the shape in which code reads and stores them: two numbers side by side, elements one by one, stores one
--- after the other. The laws of the numbers, parts and patches themselves are those of rules.
+-- Laws of numbers in bytes, in the shape in which code reads and stores them: two numbers side by side, a part of a slice written, and the
+-- library's bytes of a number. The laws of the numbers, parts and patches themselves are those of rules.
 -- Assumes nothing.
-use mathlib.Core.Path.{◌≡◌, refl, sym, ap, ◌∙◌}
-use mathlib.Core.List.{List, [], ◌∷◌, ◌++◌, append-nil}
-use Prim.Native.Nat.{ℕ, zero, suc, ◌+◌, ◌*◌, ◌/◌, ◌%◌, ◌^◌, ◌≤◌, ◌<◌}
-use native.Mathlib.Nat.{add-suc, suc-add, zero-add, add_comm, mul_assoc, mul_comm, pow-suc, div-one, div-div-eq-div-mul}
-use native.Mathlib.Numerals.{add-one}
+use mathlib.Core.Path.{◌≡◌, refl, sym, ap, ap₂, ◌∙◌}
+use mathlib.Core.List.{List, [], ◌∷◌, ◌++◌, append-nil, append_assoc}
+use Prim.Native.Nat.{ℕ, zero, suc, ◌+◌, ◌-◌, ◌*◌, ◌/◌, ◌%◌, ◌^◌, ◌≤◌, ◌<◌}
+use native.Mathlib.Nat.{suc-add, zero-add, add_comm, mul_assoc, mul_comm, pow-suc, div-one, div-div-eq-div-mul}
 use native.Mathlib.Omega.{arith}
 use lib.Arith.{digits_div}
 use lib.Pow.{pow-add}
-use lib.ListN.{length, take, drop, get_or, set}
-use lib.Seq.{drop-length, sets, sets-eq}
+use lib.ListN.{length, take, drop}
+use lib.Seq.{drop-drop, drop-length}
 use Rattle.rules.specs.Bytes.{be, le, be_digits, le_digits, part, patch}
-use Rattle.rules.proofs.ByteLaws.{be-append, be_digits-above, length_part, part-add, part-suc}
+use Rattle.std.specs.Int.{byte_at, bytes_low_first, bytes_high_first}
+use Rattle.std.proofs.lemmas.List.{take_rest}
+use Rattle.rules.proofs.ByteLaws.{be-append, be-be_digits-fits, be_digits-above, le-le_digits-fits, length_part, part-add}
 
 -- ---- big-endian
 
@@ -44,57 +45,54 @@ part-is at n s = refl
 pub be-two : (s : List ℕ) (at n m : ℕ) → at + (n + m) ≤ length s → be (part at (n + m) s) ≡ be (part at n s) * 256 ^ m + be (part (at + n) m s)
 be-two s at n m h = rw (part-add s at n m, be-append (part at n s) (part (at + n) m s), length_part s (at + n) m (omega arith)) refl
 
--- the n elements from at + k on, one by one
-abbrev pub run : List ℕ → ℕ → ℕ → ℕ → List ℕ
-run s at k zero = []
-run s at k (suc n) = get_or s (at + k) 0 ∷ run s at (suc k) n
-
-part-run : (s : List ℕ) (at k n : ℕ) → at + k + n ≤ length s → part (at + k) n s ≡ run s at k n
+-- the first n of the rest
+pub part-front : (s : List ℕ) (at n : ℕ) → take n (take (length s - at) (drop at s)) ≡ part at n s
 unfolding part
-part-run s at k zero h = refl
-part-run s at k (suc n) h = part-suc s (at + k) n (omega arith) ∙ rw (← add-suc at k, part-run s at (suc k) n (omega (arith, add-suc at k))) refl
-
--- what a function makes of the elements s[at], s[at + 1], .. is what it makes of the part
-pub of-elements : {A : Type 0} (f : List ℕ → A) (s : List ℕ) (at n : ℕ) (r : A) → at + suc n ≤ length s → r ≡ f (get_or s at 0 ∷ run s at 1 n) → r ≡ f (part at (suc n) s)
-of-elements f s at n r h e = e ∙ ap f (sym (part-suc s at n (omega arith) ∙ rw (← add-one at, part-run s at 1 n (omega arith)) refl))
+part-front s at n = rw take_rest refl
 
 -- ---- a patch
 
--- stores at at + k, at + k + 1, .. one after the other
-abbrev pub stores : List ℕ → ℕ → ℕ → List ℕ → List ℕ
-stores s at k [] = s
-stores s at k (x ∷ xs) = stores (set s (at + k) x) at (suc k) xs
-
-stores-sets : (s : List ℕ) (at k : ℕ) (xs : List ℕ) → stores s at k xs ≡ sets s (at + k) xs
-stores-sets s at k [] = refl
-stores-sets s at k (x ∷ xs) = stores-sets (set s (at + k) x) at (suc k) xs ∙ rw add-suc refl
-
--- stores from at on are a patch
-pub stores-patch : (s : List ℕ) (at x : ℕ) (xs : List ℕ) → at + suc (length xs) ≤ length s → stores (set s at x) at 1 xs ≡ patch s at (x ∷ xs)
+-- what a write of xs to s[at..at + k] leaves
+pub patch-mid : (s xs ys : List ℕ) (at k : ℕ) → ys ≡ xs → k ≡ length xs → take at s ++ (ys ++ drop k (drop at s)) ≡ patch s at xs
 unfolding patch
-stores-patch s at x xs h = stores-sets (set s at x) at 1 xs ∙ rw add-one refl ∙ sets-eq (x ∷ xs) s at h
+patch-mid s xs ys at k e n = rw (e, n, drop-drop (length xs) at s) (sym (append_assoc (take at s) xs (drop (at + length xs) s)))
 
 -- a patch as long as the whole
 pub patch-whole : (s xs : List ℕ) → length xs ≡ length s → patch s 0 xs ≡ xs
 unfolding patch
 patch-whole s xs e = rw (zero-add (length xs), e, drop-length s) (append-nil xs)
 
--- ---- the stores of the four functions
+-- ---- the library's bytes of a number
 
-pub put-be32 : (s : List ℕ) (at v : ℕ) → at + 4 ≤ length s → stores (set s at (v / 256 ^ 3 % 256)) at 1 (v / 256 ^ 2 % 256 ∷ v / 256 % 256 ∷ v % 256 ∷ []) ≡ patch s at (be_digits 4 v)
+-- bytes from the highest down
+high-digits : (k v : ℕ) → bytes_high_first k v ≡ be_digits k v
 unfolding be_digits
-put-be32 s at v h = rw (div-one v) (stores-patch s at _ _ h)
+high-digits zero v = refl
+high-digits (suc zero) v = rw (div-one v) refl
+high-digits (suc (suc k)) v = ap (λ (t : List ℕ). v / 256 ^ suc k % 256 ∷ t) (high-digits (suc k) v)
 
-pub put-be64 : (s : List ℕ) (at v : ℕ) → at + 8 ≤ length s
-    → stores (set s at (v / 256 ^ 7 % 256)) at 1 (v / 256 ^ 6 % 256 ∷ v / 256 ^ 5 % 256 ∷ v / 256 ^ 4 % 256 ∷ v / 256 ^ 3 % 256 ∷ v / 256 ^ 2 % 256 ∷ v / 256 % 256 ∷ v % 256 ∷ [])
-    ≡ patch s at (be_digits 8 v)
-unfolding be_digits
-put-be64 s at v h = rw (div-one v) (stores-patch s at _ _ h)
-
-pub put-le32 : (s : List ℕ) (at v : ℕ) → at + 4 ≤ length s → stores (set s at (v % 256)) at 1 (le_digits 3 (v / 256)) ≡ patch s at (le_digits 4 v)
+-- bytes from byte i upward
+low-digits : (i k v : ℕ) → bytes_low_first i k v ≡ le_digits k (v / 256 ^ i)
 unfolding le_digits
-put-le32 s at v h = stores-patch s at _ _ h
+low-digits i zero v = refl
+low-digits i (suc k) v =
+    let q : v / 256 ^ i / 256 ≡ v / 256 ^ suc i = rw pow-suc (div-div-eq-div-mul v (256 ^ i) 256) in
+    ap₂ (λ (x : ℕ) (t : List ℕ). x ∷ t) (byte i v) (low-digits (suc i) k v ∙ ap (le_digits k) (sym q))
+  where
+    byte : (j x : ℕ) → byte_at j x ≡ x / 256 ^ j % 256
+    byte zero x = rw (div-one x) refl
+    byte (suc j) x = refl
 
-pub put-le64 : (s : List ℕ) (at v : ℕ) → at + 8 ≤ length s → stores (set s at (v % 256)) at 1 (le_digits 7 (v / 256)) ≡ patch s at (le_digits 8 v)
-unfolding le_digits
-put-le64 s at v h = stores-patch s at _ _ h
+-- what the library's methods write
+pub be-bytes : (k v : ℕ) (xs : List ℕ) → xs ≡ bytes_high_first k v → xs ≡ be_digits k v
+be-bytes k v xs e = e ∙ high-digits k v
+
+pub le-bytes : (k v : ℕ) (xs : List ℕ) → xs ≡ bytes_low_first 0 k v → xs ≡ le_digits k v
+le-bytes k v xs e = e ∙ low-digits 0 k v ∙ ap (le_digits k) (div-one v)
+
+-- a number whose bytes these are
+pub be-read : (k n : ℕ) (s : List ℕ) → bytes_high_first k n ≡ s → n < 256 ^ k → n ≡ be s
+be-read k n s e h = sym (be-be_digits-fits k n h) ∙ ap be (sym (be-bytes k n s (sym e)))
+
+pub le-read : (k n : ℕ) (s : List ℕ) → bytes_low_first 0 k n ≡ s → n < 256 ^ k → n ≡ le s
+le-read k n s e h = sym (le-le_digits-fits k n h) ∙ ap le (sym (le-bytes k n s (sym e)))

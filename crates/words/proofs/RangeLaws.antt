@@ -2,7 +2,7 @@
 -- Assumes nothing.
 use mathlib.Core.Path.{◌≡◌, refl, sym, ap, ◌∙◌}
 use mathlib.Core.Bool.{Bool, true, false, ◌&&◌}
-use mathlib.Core.List.{List, [], ◌∷◌, ◌++◌, append_assoc}
+use mathlib.Core.List.{List, [], ◌∷◌, ◌++◌}
 use Prim.Native.Nat.{ℕ, zero, suc, ◌+◌, ◌-◌, ◌≤◌, ◌<◌}
 use native.Mathlib.Nat.{add-suc, suc-add, sub_self}
 use native.Mathlib.Numerals.{add-one}
@@ -10,11 +10,11 @@ use native.Mathlib.Omega.{arith}
 use borrow.Author.Tests.{ne_eqb}
 use lib.Bits.{bit_or, or_zero_l, or_add_and, and_le_r}
 use lib.Dec.{eqb, eqb-suc-zero}
-use lib.ListN.{length, take, drop, get_or, set, replicate, length-append, length-replicate, replicate-append-replicate}
+use Rattle.std.specs.List.{fold}
+use lib.ListN.{length, take, drop, get_or, set, length-append}
 use lib.Seq.{sets-eq, length-take-le, set-append_left, take-suc, take-set-lt, take-suc-set, take_all, append_snoc}
 use Rattle.rules.specs.Lists.{all}
 use Rattle.rules.specs.Bytes.{part, patch, all_zero}
-use Rattle.rules.proofs.ListLaws.{all_append}
 use Rattle.rules.proofs.ByteLaws.{get_or-patch-before, get_or-patch-behind, length_part, length-patch, part-add, part_none, part-suc, patch-none, patch-patch}
 
 -- ---- a patch
@@ -74,17 +74,6 @@ down-more s₀ s a i k q p l h =
     rw (q, get_or-patch-behind s₀ (a - k) i (part a (i - a) s₀) (omega arith) (omega arith), w, part-snoc s₀ a (i - a) (omega arith), x)
     (patch-snoc s₀ (a - k) (i - k) (get_or s₀ i 0) (part a (i - a) s₀) (omega arith) (omega arith))
 
--- filled with one value
-pub fill_none : (s : List ℕ) (a v : ℕ) → s ≡ patch s a (replicate (a - a) v)
-fill_none s a v = sym (rw (sub_self a) (patch-none s a))
-
-pub fill_more : (s₀ s : List ℕ) (a i v : ℕ) → s ≡ patch s₀ a (replicate (i - a) v) → a ≤ i → i < length s₀
-    → set s i v ≡ patch s₀ a (replicate (i + 1 - a) v)
-fill_more s₀ s a i v q l h =
-    let n : length (replicate (i - a) v) ≡ i - a = length-replicate (i - a) v in
-    let w : i + 1 - a ≡ i - a + 1 = omega arith in
-    rw (q, w, ← replicate-append-replicate (i - a) 1 v) (patch-snoc s₀ a i v (replicate (i - a) v) (omega arith) (omega arith))
-
 -- ---- zeros
 
 and-true : (b : Bool) → b && true ≡ b
@@ -96,18 +85,15 @@ pub or-zero : (a b : ℕ) → eqb (bit_or a b) 0 ≡ eqb a 0 && eqb b 0
 or-zero zero b = rw (or_zero_l b) refl
 or-zero (suc a) b = rw (eqb-suc-zero a) (ne_eqb (bit_or (suc a) b) 0 (λ e. omega (arith, or_add_and (suc a) b, and_le_r (suc a) b)))
 
-pub zeros-none : (s : List ℕ) (a : ℕ) → eqb 0 0 ≡ all_zero (part a (a - a) s)
+-- the bytes put together are zero if each of them is
+pub or-all : (a : ℕ) (xs : List ℕ) → eqb (fold bit_or a xs) 0 ≡ eqb a 0 && all_zero xs
 unfolding all_zero all
-zeros-none s a = rw (sub_self a, part_none s a) refl
-
-pub zeros-more : (s : List ℕ) (a i x : ℕ) → eqb x 0 ≡ all_zero (part a (i - a) s) → a ≤ i → i < length s
-    → eqb (bit_or x (get_or s i 0)) 0 ≡ all_zero (part a (i + 1 - a) s)
-unfolding all_zero all
-zeros-more s a i x q l h =
-    let w : i + 1 - a ≡ i - a + 1 = omega arith in
-    let y : a + (i - a) ≡ i = omega arith in
-    let z : eqb (get_or s i 0) 0 ≡ eqb (get_or s i 0) 0 && true = sym (and-true (eqb (get_or s i 0) 0)) in
-    rw (or-zero x (get_or s i 0), q, w, part-snoc s a (i - a) (omega arith), y, all_append (λ b. eqb b 0) (part a (i - a) s) (get_or s i 0 ∷ []), ← z) refl
+or-all a [] = sym (and-true (eqb a 0))
+or-all a (x ∷ xs) = or-all (bit_or a x) xs ∙ rw (or-zero a x) (and-assoc (eqb a 0) (eqb x 0) (all (λ b. eqb b 0) xs))
+  where
+    and-assoc : (p q r : Bool) → (p && q) && r ≡ p && (q && r)
+    and-assoc true q r = refl
+    and-assoc false q r = refl
 
 -- ---- a copy of another slice
 

@@ -7,10 +7,9 @@ pub fn copy(s: &mut [u8], at: usize, x: &[u8])
     requires { at + length x.now ≤ length s.old }
     ensures { s.new ≡ patch s.old at x.now }
 {
-    let mut i: usize = 0;
-    while i < x.len() {
-        s[at + i] = x[i];
-        i += 1;
+    // Kept: a loop, as the archive may call memcpy and memset alone, and `copy_from_slice` would call memmove.
+    for (i, b) in x.iter().enumerate() {
+        s[at + i] = *b;
     }
 }
 
@@ -20,8 +19,7 @@ pub fn copy_part(s: &mut [u8], at: usize, x: &[u8], from: usize, n: usize)
     requires n_in_bounds_2 { at + n ≤ length s.old }
     ensures { s.new ≡ patch s.old at (part from n x.now) }
 {
-    let end = from + n;
-    copy(s, at, &x[from..end]);
+    copy(s, at, &x[from..from + n]);
 }
 
 // Zeros from `a` to `e`.
@@ -29,26 +27,16 @@ pub fn zero(s: &mut [u8], a: usize, e: usize)
     requires { (a ≤ e) × (e ≤ length s.old) }
     ensures { s.new ≡ patch s.old a (replicate (e - a) 0) }
 {
-    let mut i = a;
-    while i < e {
-        s[i] = 0;
-        i += 1;
-    }
+    s[a..e].fill(0);
 }
 
-// Whether all from `a` to `e` is zero. The bytes are put together first and tested once: an exit at each byte would keep the compiler
-// from taking many at a time.
+// Whether all from `a` to `e` is zero.
 pub fn is_zero(s: &[u8], a: usize, e: usize) -> bool
     requires { (a ≤ e) × (e ≤ length s.now) }
     ensures { result ≡ all_zero (part a (e - a) s.now) }
 {
-    let mut any: u8 = 0;
-    let mut i = a;
-    while i < e {
-        any = any | s[i];
-        i += 1;
-    }
-    any == 0
+    // Kept: a fold and not `all`, as an exit at each byte would keep the compiler from taking many at a time.
+    s[a..e].iter().fold(0, |any, x| any | *x) == 0
 }
 
 // The bytes from `a` to `e` go `k` places up. The last goes first, so that none is overwritten before it is moved.
@@ -56,9 +44,8 @@ pub fn move_up(s: &mut [u8], a: usize, e: usize, k: usize)
     requires { (a ≤ e) × (e + k ≤ length s.old) }
     ensures { s.new ≡ patch s.old (a + k) (part a (e - a) s.old) }
 {
-    let mut j = e;
-    while a < j {
-        j -= 1;
+    // Kept: a loop, as the archive may call memcpy and memset alone, and `copy_within` would call memmove.
+    for j in (a..e).rev() {
         s[j + k] = s[j];
     }
 }
@@ -68,9 +55,8 @@ pub fn move_down(s: &mut [u8], a: usize, e: usize, k: usize)
     requires { (k ≤ a) × (a ≤ e) × (e ≤ length s.old) }
     ensures { s.new ≡ patch s.old (a - k) (part a (e - a) s.old) }
 {
-    let mut i = a;
-    while i < e {
+    // Kept: a loop, as the archive may call memcpy and memset alone, and `copy_within` would call memmove.
+    for i in a..e {
         s[i - k] = s[i];
-        i += 1;
     }
 }

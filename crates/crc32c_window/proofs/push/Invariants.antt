@@ -1,15 +1,11 @@
--- `crc32c_window::push` meets its contract. The loop keeps: the window stands for the register after the first `at` bytes.
+-- `crc32c_window::push` meets its contract. The loop keeps: what is left gives the register of the whole.
 -- Assumes nothing.
-use Prim.Native.Nat.{◌-◌, ◌≤◌}
 use mathlib.Core.Path.{◌≡◌}
-use lib.ListN.{length, take}
+use Rattle.std.specs.Slice.Iter.{chunks_rest, chunks_size}
 use Rattle.crc32c_tables.specs.Register.{fed}
 use Rattle.crc32c_window.specs.Window.{register_at}
 use Rattle.crc32c_window.proofs.push.Given as goal
 
-abbrev pub invariant-loop-at : goal.invariant-loop-at
-invariant-loop-at l =
-    (l.at ≤ length l.s) × (length l.w ≡ 4624) × (register_at l.w 528 ≡ fed (register_at l.initial.w 528) (take l.at l.s))
-
-abbrev pub decreases-loop-at : goal.decreases-loop-at
-decreases-loop-at l = length l.s - l.at
+abbrev pub invariant-loop-piece : goal.invariant-loop-piece
+invariant-loop-piece l =
+    (chunks_size l.piece-iterator ≡ 4096) × (fed (register_at l.w 528) (chunks_rest l.piece-iterator) ≡ fed (register_at l.initial.w 528) l.fn.s)

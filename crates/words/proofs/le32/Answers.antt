@@ -1,7 +1,9 @@
-use Rattle.words.proofs.NumberLaws.{of-elements}
+use mathlib.Core.Path.{◌∙◌, ap}
+use Rattle.std.proofs.lemmas.Nat.{le_bytes_4}
 use Rattle.rules.specs.Bytes.{le}
+use Rattle.words.proofs.NumberLaws.{le-read}
 use borrow.Author.Rules.{rules}
 use Rattle.words.proofs.le32.Goals as goal
 
 pub returns : goal.returns
-returns c = of-elements le _ _ 3 _ (search rules) c.le32_of.ensures
+returns c = le-read 4 _ _ (le_bytes_4 _ _ (search rules) (search rules) c.from_le_bytes.ensures) (search rules) ∙ ap le c.array_at.ensures

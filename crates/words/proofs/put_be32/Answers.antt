@@ -1,20 +1,7 @@
-use Rattle.words.proofs.NumberLaws.{put-be32}
-use lib.ListN.{length-set}
-use native.Mathlib.Omega.{arith}
-use borrow.Author.Rules.{rules}
+use mathlib.Core.Path.{◌∙◌, ap}
+use Rattle.rules.specs.Bytes.{patch}
+use Rattle.words.proofs.NumberLaws.{be-bytes}
 use Rattle.words.proofs.put_be32.Goals as goal
 
-pub bounds-s-at-2 : goal.bounds-s-at-2
-bounds-s-at-2 c = simp length-set (omega arith)
-
-pub bounds-s-at-3 : goal.bounds-s-at-3
-bounds-s-at-3 c = simp length-set (omega arith)
-
-pub bounds-s-at-4 : goal.bounds-s-at-4
-bounds-s-at-4 c = simp length-set (omega arith)
-
-pub shape_of-s : goal.shape_of-s
-shape_of-s c = simp length-set
-
 pub returns : goal.returns
-returns c = search (put-be32, rules)
+returns c = c.put_array.ensures ∙ ap (patch _ _) (be-bytes 4 _ _ c.to_be_bytes.ensures)

@@ -1,32 +1,7 @@
-use Rattle.words.proofs.NumberLaws.{put-be64}
-use lib.ListN.{length-set}
-use native.Mathlib.Omega.{arith}
-use borrow.Author.Rules.{rules}
+use mathlib.Core.Path.{◌∙◌, ap}
+use Rattle.rules.specs.Bytes.{patch}
+use Rattle.words.proofs.NumberLaws.{be-bytes}
 use Rattle.words.proofs.put_be64.Goals as goal
 
-pub bounds-s-at-2 : goal.bounds-s-at-2
-bounds-s-at-2 c = simp length-set (omega arith)
-
-pub bounds-s-at-3 : goal.bounds-s-at-3
-bounds-s-at-3 c = simp length-set (omega arith)
-
-pub bounds-s-at-4 : goal.bounds-s-at-4
-bounds-s-at-4 c = simp length-set (omega arith)
-
-pub bounds-s-at-5 : goal.bounds-s-at-5
-bounds-s-at-5 c = simp length-set (omega arith)
-
-pub bounds-s-at-6 : goal.bounds-s-at-6
-bounds-s-at-6 c = simp length-set (omega arith)
-
-pub bounds-s-at-7 : goal.bounds-s-at-7
-bounds-s-at-7 c = simp length-set (omega arith)
-
-pub bounds-s-at-8 : goal.bounds-s-at-8
-bounds-s-at-8 c = simp length-set (omega arith)
-
-pub shape_of-s : goal.shape_of-s
-shape_of-s c = simp length-set
-
 pub returns : goal.returns
-returns c = search (put-be64, rules)
+returns c = c.put_array.ensures ∙ ap (patch _ _) (be-bytes 8 _ _ c.to_be_bytes.ensures)

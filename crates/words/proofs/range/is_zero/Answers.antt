@@ -1,14 +1,15 @@
-use Rattle.words.proofs.RangeLaws.{zeros-none, zeros-more}
-use native.Mathlib.Omega.{arith}
 use mathlib.Core.Path.{◌≡◌}
+use Prim.Native.Nat.{◌-◌}
+use lib.Bits.{bit_or}
+use Rattle.std.specs.List.{fold}
+use lib.ListN.{take, drop}
+use Rattle.rules.specs.Bytes.{part}
+use Rattle.words.proofs.RangeLaws.{or-all}
 use borrow.Author.Rules.{rules}
 use Rattle.words.proofs.range.is_zero.Goals as goal
 
-pub loop-i-init : goal.loop-i-init
-loop-i-init c = search (zeros-none, rules)
-
-pub loop-i-preserved : goal.loop-i-preserved
-loop-i-preserved c = (omega arith, omega arith, zeros-more _ _ _ c.loop-i.any c.loop-i.invariant.2 (omega arith) (omega arith))
-
 pub returns : goal.returns
-returns c = let q : c.loop-i.i ≡ c.args.e = omega arith in rw q at c.loop-i.invariant.2
+unfolding part
+returns c =
+    let q : c.fold.result ≡ fold bit_or 0 (take (c.args.e - c.args.a) (drop c.args.a c.args.s.now)) = search rules in
+    rw q (or-all 0 _)
