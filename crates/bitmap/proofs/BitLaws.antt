@@ -244,7 +244,7 @@ first-set : (w : ℕ) → First w true (count_trailing_zeros 64 w)
 first-set w = record { most = trailing-most 64 w; before = λ j h. trailing-before 64 w j h; found = λ h. trailing-found 64 w h }
 
 -- an inversion on the other side
-not-swap : (a b : Bool) → not a ≡ b → a ≡ not b
+pub not-swap : (a b : Bool) → not a ≡ b → a ≡ not b
 not-swap true b e = ap not e
 not-swap false b e = ap not e
 
@@ -265,6 +265,12 @@ pub bit-alike : (b : Bool) (j : ℕ) → j < 64 → bit_of (pick b then 0xffffff
 unfolding pick◌then◌else◌
 bit-alike true j h = bit_not 64 0 j (omega arith) h ∙ rw (bit-zero j) refl
 bit-alike false j h = bit-zero j
+
+-- and of a byte
+pub byte-alike : (b : Bool) (j : ℕ) → j < 8 → bit_of (pick b then 255 else 0) j ≡ b
+unfolding pick◌then◌else◌
+byte-alike true j h = bit_not 8 0 j (omega arith) h ∙ rw (bit-zero j) refl
+byte-alike false j h = bit-zero j
 
 -- it is a word
 pub alike-lt : (b : Bool) → (pick b then 0xffffffffffffffff else 0) < 2 ^ 64
