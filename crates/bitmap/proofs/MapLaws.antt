@@ -63,7 +63,7 @@ unfolding with_bits
 bytes-with_bits b m a e = bytes-bit_bytes (length m) (λ k. pick within a e k then b else bit_set m k) 0
 
 -- what each bit is afterwards
-pub bit_set-with_bits : (b : Bool) (m : List ℕ) (a e k : ℕ) → k < 8 * length m → bit_set (with_bits b m a e) k ≡ (pick within a e k then b else bit_set m k)
+bit_set-with_bits : (b : Bool) (m : List ℕ) (a e k : ℕ) → k < 8 * length m → bit_set (with_bits b m a e) k ≡ (pick within a e k then b else bit_set m k)
 unfolding with_bits
 bit_set-with_bits b m a e k h = bit_set-bit_bytes (length m) (λ k. pick within a e k then b else bit_set m k) 0 k h ∙ ap (λ (i : ℕ). pick within a e i then b else bit_set m i) (zero-add k)
 
@@ -83,7 +83,7 @@ unfolding pick◌then◌else◌
 bit_set-after b m a e k h p = bit_set-with_bits b m a e k h ∙ rw (within-after a e k p) refl
 
 -- a map whose bits are so is that map
-pub is-with_bits : (b : Bool) (m l : List ℕ) (a e : ℕ) → length l ≡ length m → Bytes l
+is-with_bits : (b : Bool) (m l : List ℕ) (a e : ℕ) → length l ≡ length m → Bytes l
     → ((k : ℕ) → k < 8 * length m → a ≤ k → k < e → bit_set l k ≡ b)
     → ((k : ℕ) → k < 8 * length m → k < a → bit_set l k ≡ bit_set m k)
     → ((k : ℕ) → k < 8 * length m → e ≤ k → bit_set l k ≡ bit_set m k)
@@ -105,7 +105,7 @@ of : {x y : List ℕ} (k : ℕ) → x ≡ y → bit_set x k ≡ bit_set y k
 of k e = ap (λ (m : List ℕ). bit_set m k) e
 
 -- two ranges one behind the other are one
-pub with-with : (b : Bool) (m l t : List ℕ) (a n e : ℕ) → l ≡ with_bits b m a n → t ≡ with_bits b l n e → a ≤ n → n ≤ e → t ≡ with_bits b m a e
+with-with : (b : Bool) (m l t : List ℕ) (a n e : ℕ) → l ≡ with_bits b m a n → t ≡ with_bits b l n e → a ≤ n → n ≤ e → t ≡ with_bits b m a e
 with-with b m l t a n e p q x y =
     let s : length l ≡ length m = ap length p ∙ length-with_bits b m a n in
     let z : length t ≡ length m = ap length q ∙ length-with_bits b l n e ∙ s in
@@ -243,16 +243,12 @@ fill-three b m u v l a s t e p q r x y z = with-with b m v l a t e (with-with b 
 
 -- ---- the next bit of a kind
 
--- no bit yet
-pub next-yet : (m : List ℕ) (b : Bool) (a n : ℕ) → n ≡ a → Next m b a n n
-next-yet m b a n e = record { least = omega arith; most = omega arith; before = λ k p q. absurd (omega arith); found = λ u. absurd (omega arith) }
-
 -- found before the end of a part, it is found in the whole
-pub next-stop : (m : List ℕ) (b : Bool) (a s e r : ℕ) → Next m b a s r → r < s → s ≤ e → Next m b a e r
+next-stop : (m : List ℕ) (b : Bool) (a s e r : ℕ) → Next m b a s r → r < s → s ≤ e → Next m b a e r
 next-stop m b a s e r f h l = record { least = f.least; most = omega arith; before = f.before; found = λ u. f.found h }
 
 -- not found in a part, it is the one found behind it
-pub next-on : (m : List ℕ) (b : Bool) (a s e r t : ℕ) → Next m b a s r → s ≤ r → Next m b s e t → Next m b a e t
+next-on : (m : List ℕ) (b : Bool) (a s e r t : ℕ) → Next m b a s r → s ≤ r → Next m b s e t → Next m b a e t
 next-on m b a s e r t f h g =
     record { least = omega (arith, f.least, f.most, g.least); most = g.most; before = λ k p q. go k p q (dec_lt k r); found = g.found }
   where
@@ -306,10 +302,6 @@ word-one m b n w t e z c f h =
     let s : t ≡ 64 = omega (arith, f.most) in
     rw s at (word_next m b n w t e z c f)
 
--- a range passed to its end
-pub next-end : (m : List ℕ) (b : Bool) (a e n : ℕ) → Next m b a n n → n ≡ e → Next m b a e e
-next-end m b a e n f x = rw x at f
-
 -- ---- a test of each bit of a range
 
 -- there is no next bit of the other kind if the test passes at every bit
@@ -346,11 +338,6 @@ count-front f a n =
     if-cases (λ (x : ℕ). count f (a ∷ range (suc a) n) ≡ x + count f (range (suc a) n)) (f a) 1 0
     (λ e. count_yes f a (range (suc a) n) e ∙ sym (one-add (count f (range (suc a) n))))
     (λ e. count_no f a (range (suc a) n) e ∙ sym (zero-add (count f (range (suc a) n))))
-
--- one bit
-count-one : (f : ℕ → Bool) (a : ℕ) → count f (range a 1) ≡ (pick f a then 1 else 0)
-unfolding count filter range
-count-one f a = count-front f a 0 ∙ add-zero (pick f a then 1 else 0)
 
 -- the bits of a word, one by one, are as many as its ones
 count_ones : (f : ℕ → Bool) (s k w : ℕ) → w < 2 ^ k → ((j : ℕ) → j < k → f (s + j) ≡ bit_of w j) → count f (range s k) ≡ ones w

@@ -1,7 +1,7 @@
 // A map of bits: bit n is bit n mod 8 of byte n div 8, counted from the low bit.
 //
-// A range of 64 bits or more is taken in three parts: bit by bit to a byte's edge, then in words of 64 bits, then what is left bit by bit. The words
-// have loops of their own, with no test in them but the one that is asked for, so that they run at the speed of memory.
+// A range of 64 bits or more is taken in three parts: bit by bit to a byte's edge, then in words of 64 bits, or in bytes where it is filled, then what
+// is left bit by bit. The words have loops of their own, with no test in them but the one that is asked for, so that they run at the speed of memory.
 //
 // `bitmap_pairs` has what takes two maps.
 #![tactic(auto)]
@@ -9,7 +9,7 @@
 ghost use Rattle.std.specs.Prelude.{◌≡◌, true, false, not, ◌+◌, ◌-◌, ◌*◌, ◌%◌, ◌^◌, ◌≤◌, ◌<◌, length};
 ghost use Rattle.rules.specs.Lists.{pick◌then◌else◌, all, count, range};
 ghost use Rattle.rules.specs.Bytes.{bit_set};
-ghost use Rattle.bitmap.specs.Map.{with_bit, with_bits, First, Next, NextBefore};
+ghost use Rattle.bitmap.specs.Map.{InMap, with_bit, with_bits, First, Next, NextBefore};
 
 // Whether bit `n` is set.
 pub fn get(m: &[u8], n: usize) -> bool
@@ -39,6 +39,7 @@ pub fn put(m: &mut [u8], n: usize, value: bool)
 }
 
 // Bit `n` set.
+// Kept: `set` and `clear` are two names of `put`: a call by a name reads plainer than one by `true` or `false`.
 pub fn set(m: &mut [u8], n: usize)
     requires { n < 8 * length m.old }
     ensures { m.new ≡ with_bits true m.old n (n + 1) }
@@ -56,7 +57,7 @@ pub fn clear(m: &mut [u8], n: usize)
 
 // The bits from `a` to `e` as asked, bit by bit.
 fn fill_bits(m: &mut [u8], a: usize, e: usize, value: bool)
-    requires { (a ≤ e) × (e ≤ 8 * length m.old) }
+    requires { InMap m.old a e }
     ensures { m.new ≡ with_bits value m.old a e }
 {
     for n in a..e {
@@ -66,7 +67,7 @@ fn fill_bits(m: &mut [u8], a: usize, e: usize, value: bool)
 
 // The bits from `a` to `e`, both at a byte's edge, as asked, whole bytes.
 fn fill_bytes(m: &mut [u8], a: usize, e: usize, value: bool)
-    requires { (a ≤ e) × (e ≤ 8 * length m.old) × (a % 8 ≡ 0) × (e % 8 ≡ 0) }
+    requires { InMap m.old a e × (a % 8 ≡ 0) × (e % 8 ≡ 0) }
     ensures { m.new ≡ with_bits value m.old a e }
 {
     m[a / 8..e / 8].fill(if value { 255 } else { 0 });
@@ -74,7 +75,7 @@ fn fill_bytes(m: &mut [u8], a: usize, e: usize, value: bool)
 
 // The bits from `a` to `e` as asked.
 fn fill(m: &mut [u8], a: usize, e: usize, value: bool)
-    requires { (a ≤ e) × (e ≤ 8 * length m.old) }
+    requires { InMap m.old a e }
     ensures { m.new ≡ with_bits value m.old a e }
 {
     if e - a < 64 {
@@ -89,8 +90,9 @@ fn fill(m: &mut [u8], a: usize, e: usize, value: bool)
 }
 
 // The bits from `a` to `e` set.
+// Kept: `set_range` and `clear_range` are two names of `fill`, as `set` and `clear` of `put`.
 pub fn set_range(m: &mut [u8], a: usize, e: usize)
-    requires { (a ≤ e) × (e ≤ 8 * length m.old) }
+    requires { InMap m.old a e }
     ensures { m.new ≡ with_bits true m.old a e }
 {
     fill(m, a, e, true);
@@ -98,13 +100,14 @@ pub fn set_range(m: &mut [u8], a: usize, e: usize)
 
 // The bits from `a` to `e` clear.
 pub fn clear_range(m: &mut [u8], a: usize, e: usize)
-    requires { (a ≤ e) × (e ≤ 8 * length m.old) }
+    requires { InMap m.old a e }
     ensures { m.new ≡ with_bits false m.old a e }
 {
     fill(m, a, e, false);
 }
 
 // The first bit of a word that is as asked, or 64: the first clear one is the first set one of the inverted word.
+// Kept: 64 and no `Option`, as the library's `trailing_zeros` answers: who knows that there is a bit has nothing to unwrap.
 pub fn first(w: u64, value: bool) -> u32
     ensures { First w value result }
 {
@@ -116,7 +119,7 @@ pub fn first(w: u64, value: bool) -> u32
 
 // The first bit from `a` on and before `e` that is as asked, bit by bit.
 fn next_bits(m: &[u8], a: usize, e: usize, value: bool) -> Option<usize>
-    requires { (a ≤ e) × (e ≤ 8 * length m.now) }
+    requires { InMap m.now a e }
     ensures { NextBefore m.now value a e result }
 {
     (a..e).find(|&n| get(m, n) == value)
@@ -144,7 +147,7 @@ fn word_of(value: bool) -> u64
 // The same from a byte's edge on, whole pairs of words: one compare for each word that has no bit as asked. Two words a turn, as a turn has its own cost;
 // and a word is looked into where it is found, as one that is only compared with zero is read byte by byte.
 fn next_pairs(m: &[u8], a: usize, e: usize, value: bool) -> Option<usize>
-    requires { (a ≤ e) × (e ≤ 8 * length m.now) × (a % 8 ≡ 0) × ((e - a) % 128 ≡ 0) }
+    requires { InMap m.now a e × (a % 8 ≡ 0) × ((e - a) % 128 ≡ 0) }
     ensures { NextBefore m.now value a e result }
 {
     let none = word_of(!value);
@@ -164,7 +167,7 @@ fn next_pairs(m: &[u8], a: usize, e: usize, value: bool) -> Option<usize>
 
 // The same from a byte's edge on, whole words: an odd one first, then pairs.
 fn next_words(m: &[u8], a: usize, e: usize, value: bool) -> Option<usize>
-    requires { (a ≤ e) × (e ≤ 8 * length m.now) × (a % 8 ≡ 0) × ((e - a) % 64 ≡ 0) }
+    requires { InMap m.now a e × (a % 8 ≡ 0) × ((e - a) % 64 ≡ 0) }
     ensures { NextBefore m.now value a e result }
 {
     if (e - a) % 128 == 0 {
@@ -175,7 +178,7 @@ fn next_words(m: &[u8], a: usize, e: usize, value: bool) -> Option<usize>
 
 // The first bit from `a` on and before `e` that is as asked.
 fn next(m: &[u8], a: usize, e: usize, value: bool) -> Option<usize>
-    requires { (a ≤ e) × (e ≤ 8 * length m.now) }
+    requires { InMap m.now a e }
     ensures { NextBefore m.now value a e result }
 {
     if e - a < 64 {
@@ -189,8 +192,10 @@ fn next(m: &[u8], a: usize, e: usize, value: bool) -> Option<usize>
 }
 
 // The first set bit at or after `a`, or `e` if none before it is.
+// Kept: `e` and no `Option`: each caller goes on at the end where there is no such bit, and would write `unwrap_or(e)`.
+// Kept: `next_set` and `next_clear` are two names of `next`, as `set` and `clear` of `put`.
 pub fn next_set(m: &[u8], a: usize, e: usize) -> usize
-    requires { (a ≤ e) × (e ≤ 8 * length m.now) }
+    requires { InMap m.now a e }
     ensures { Next m.now true a e result }
 {
     next(m, a, e, true).unwrap_or(e)
@@ -198,15 +203,16 @@ pub fn next_set(m: &[u8], a: usize, e: usize) -> usize
 
 // The first clear bit at or after `a`, or `e` if none before it is.
 pub fn next_clear(m: &[u8], a: usize, e: usize) -> usize
-    requires { (a ≤ e) × (e ≤ 8 * length m.now) }
+    requires { InMap m.now a e }
     ensures { Next m.now false a e result }
 {
     next(m, a, e, false).unwrap_or(e)
 }
 
 // Whether every bit from `a` to `e` is set.
+// Kept: `all_set` and `all_clear` are two names of a test of `next`, as `set` and `clear` of `put`.
 pub fn all_set(m: &[u8], a: usize, e: usize) -> bool
-    requires { (a ≤ e) × (e ≤ 8 * length m.now) }
+    requires { InMap m.now a e }
     ensures { result ≡ all (bit_set m.now) (range a (e - a)) }
 {
     next(m, a, e, false).is_none()
@@ -214,7 +220,7 @@ pub fn all_set(m: &[u8], a: usize, e: usize) -> bool
 
 // Whether every bit from `a` to `e` is clear.
 pub fn all_clear(m: &[u8], a: usize, e: usize) -> bool
-    requires { (a ≤ e) × (e ≤ 8 * length m.now) }
+    requires { InMap m.now a e }
     ensures { result ≡ all (λ k. not (bit_set m.now k)) (range a (e - a)) }
 {
     next(m, a, e, true).is_none()
@@ -222,7 +228,7 @@ pub fn all_clear(m: &[u8], a: usize, e: usize) -> bool
 
 // How many bits from `a` to `e` are set, bit by bit.
 fn count_bits(m: &[u8], a: usize, e: usize) -> usize
-    requires { (a ≤ e) × (e ≤ 8 * length m.now) }
+    requires { InMap m.now a e }
     ensures { result ≡ count (bit_set m.now) (range a (e - a)) }
 {
     (a..e).filter(|&n| get(m, n)).count()
@@ -230,7 +236,7 @@ fn count_bits(m: &[u8], a: usize, e: usize) -> usize
 
 // The same from a byte's edge on, whole words. The loop has no exit, so that the compiler can count several words at once.
 fn count_words(m: &[u8], a: usize, e: usize) -> usize
-    requires { (a ≤ e) × (e ≤ 8 * length m.now) × (a % 8 ≡ 0) × ((e - a) % 64 ≡ 0) }
+    requires { InMap m.now a e × (a % 8 ≡ 0) × ((e - a) % 64 ≡ 0) }
     ensures { result ≡ count (bit_set m.now) (range a (e - a)) }
 {
     let mut total: usize = 0;
@@ -242,7 +248,7 @@ fn count_words(m: &[u8], a: usize, e: usize) -> usize
 
 // How many bits from `a` to `e` are set.
 pub fn count_set(m: &[u8], a: usize, e: usize) -> usize
-    requires { (a ≤ e) × (e ≤ 8 * length m.now) }
+    requires { InMap m.now a e }
     ensures { result ≡ count (bit_set m.now) (range a (e - a)) }
 {
     if e - a < 64 {
