@@ -121,7 +121,7 @@ with-with b m l t a n e p q x y =
 -- ---- one bit
 
 -- a byte stored among bytes
-bytes-set : (m : List ℕ) (i r : ℕ) → i < length m → Bytes m → r < 256 → Bytes (set m i r)
+pub bytes-set : (m : List ℕ) (i r : ℕ) → i < length m → Bytes m → r < 256 → Bytes (set m i r)
 bytes-set m i r h b l j = go (ℕ_discrete j i)
   where
     go : Dec (j ≡ i) → get_or (set m i r) j 0 < 256
@@ -129,11 +129,11 @@ bytes-set m i r h b l j = go (ℕ_discrete j i)
     go (no d) = rw (get_or-set_other m i j r 0 d) (b j)
 
 -- a bit of the byte that was stored
-bit_set-set-same : (m : List ℕ) (i r k : ℕ) → i < length m → k / 8 ≡ i → bit_set (set m i r) k ≡ bit_of r (k % 8)
+pub bit_set-set-same : (m : List ℕ) (i r k : ℕ) → i < length m → k / 8 ≡ i → bit_set (set m i r) k ≡ bit_of r (k % 8)
 bit_set-set-same m i r k h e = bit_set-is (set m i r) k ∙ rw (e, get_or-set_same m i r 0 h) refl
 
 -- a bit of any other byte
-bit_set-set-other : (m : List ℕ) (i r k : ℕ) → (k / 8 ≡ i → ⊥) → bit_set (set m i r) k ≡ bit_set m k
+pub bit_set-set-other : (m : List ℕ) (i r k : ℕ) → (k / 8 ≡ i → ⊥) → bit_set (set m i r) k ≡ bit_set m k
 bit_set-set-other m i r k d = bit_set-is (set m i r) k ∙ rw (get_or-set_other m i (k / 8) r 0 d) (sym (bit_set-is m k))
 
 -- the bits of a byte with one as asked

@@ -70,7 +70,7 @@ fn fill_bytes(m: &mut [u8], a: usize, e: usize, value: bool)
     requires { InMap m.old a e × (a % 8 ≡ 0) × (e % 8 ≡ 0) }
     ensures { m.new ≡ with_bits value m.old a e }
 {
-    m[a / 8..e / 8].fill(if value { 255 } else { 0 });
+    m[a / 8..e / 8].fill(if value { u8::MAX } else { 0 });
 }
 
 // The bits from `a` to `e` as asked.
@@ -139,7 +139,7 @@ fn word_of(value: bool) -> u64
     ensures { result ≡ (pick value then 0xffffffffffffffff else 0) }
 {
     if value {
-        return 0xffff_ffff_ffff_ffff;
+        return u64::MAX;
     }
     0
 }
