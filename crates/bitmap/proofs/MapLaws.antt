@@ -2,10 +2,17 @@
 -- and bits.
 -- Assumes nothing.
 use mathlib.Core.Path.{◌≡◌, refl, sym, ap, ap₂, ◌∙◌}
-use mathlib.Core.Bool.{Bool, true, false, not, beq, and-false}
-use mathlib.Core.List.{List, ◌∷◌}
+use mathlib.Core.Bool.{Bool, true, false, not, and-false}
+use mathlib.Core.List.{List, [], ◌∷◌}
+use Rattle.std.proofs.Common.{append_assoc, add-one}
+use Rattle.std.proofs.lemmas.List.{drop-drop, length-replicate, get_or-replicate}
+use Rattle.std.specs.Prelude.{Option, Some, None, MatchOption}
+use Rattle.std.specs.Option.{is_some}
+use Rattle.std.specs.List.{range_with_len}
+use Rattle.std.specs.List as std
+use borrow.Rule.Slice.PartMut.{put_mid}
 use Prim.Native.Nat.{ℕ, zero, suc, ◌+◌, ◌-◌, ◌*◌, ◌/◌, ◌%◌, ◌^◌, ◌≤◌, ◌<◌}
-use native.Mathlib.Nat.{add-zero, zero-add, add-suc, suc-add, pow-suc, sub_self}
+use native.Mathlib.Nat.{add-zero, zero-add, add-suc, suc-add, pow-suc}
 use native.Mathlib.Decide.{dec_lt, ℕ_discrete}
 use native.Mathlib.Numerals.{one-add}
 use native.Mathlib.Omega.{arith}
@@ -13,15 +20,15 @@ use borrow.Author.Tests.{eq-eqb, ne_eqb, le-leb, lt-leb, lt-ltb, le-ltb}
 use lib.Arith.{lt-one}
 use lib.Count.{ones, ones_step}
 use lib.Dec.{eqb, leb}
-use lib.ListN.{length, get_or, set, length-set}
+use lib.ListN.{length, get_or, set, take, drop, replicate, length-set}
 use lib.Seq.{get_or-set_same, get_or-set_other}
 use Rattle.rules.specs.Lists.{pick◌then◌else◌, all, filter, count, range}
-use Rattle.rules.specs.Bytes.{le, le_digits, part, patch, Bytes, bit_set}
+use Rattle.rules.specs.Bytes.{le, part, patch, Bytes, bit_set}
 use Rattle.rules.proofs.ListLaws.{test-cases, clash, if-cases, range-add, length-range, all-range-at, all-range-of, count-append, count_yes, count_no, count-le}
-use Rattle.rules.proofs.ByteLaws.{bytes-part, bytes-patch, bytes-le_digits, length-le_digits, le-le_digits-fits, get_d_part, part-patch, length-patch, get_or-patch-before, get_or-patch-behind}
+use Rattle.rules.proofs.ByteLaws.{bytes-part, get_d_part, length-patch, get_or-patch, get_or-patch-before, get_or-patch-behind, length_part}
 use Rattle.rules.proofs.BitLaws.{byte_of-lt, length-bit_bytes, bytes-bit_bytes, bit_set-bit_bytes, bits-ext}
-use Rattle.bitmap.specs.Map.{bit_of, within, with_bit, with_bits, First, Next}
-use Rattle.bitmap.proofs.BitLaws.{bit-low, bit-half, bit-byte_of, bit_le, bit-alike, alike-lt, low-one, first-none, first_some}
+use Rattle.bitmap.specs.Map.{bit_of, within, with_bit, with_bits, First, Next, NextBefore}
+use Rattle.bitmap.proofs.BitLaws.{bit-low, bit-half, bit-byte_of, bit_le, byte-alike, low-one, first-none, first_some, not-swap}
 
 -- a bit of a map is one of its byte
 pub bit_set-is : (m : List ℕ) (n : ℕ) → bit_set m n ≡ bit_of (get_or m (n / 8) 0) (n % 8)
@@ -56,7 +63,7 @@ unfolding with_bits
 bytes-with_bits b m a e = bytes-bit_bytes (length m) (λ k. pick within a e k then b else bit_set m k) 0
 
 -- what each bit is afterwards
-pub bit_set-with_bits : (b : Bool) (m : List ℕ) (a e k : ℕ) → k < 8 * length m → bit_set (with_bits b m a e) k ≡ (pick within a e k then b else bit_set m k)
+bit_set-with_bits : (b : Bool) (m : List ℕ) (a e k : ℕ) → k < 8 * length m → bit_set (with_bits b m a e) k ≡ (pick within a e k then b else bit_set m k)
 unfolding with_bits
 bit_set-with_bits b m a e k h = bit_set-bit_bytes (length m) (λ k. pick within a e k then b else bit_set m k) 0 k h ∙ ap (λ (i : ℕ). pick within a e i then b else bit_set m i) (zero-add k)
 
@@ -76,7 +83,7 @@ unfolding pick◌then◌else◌
 bit_set-after b m a e k h p = bit_set-with_bits b m a e k h ∙ rw (within-after a e k p) refl
 
 -- a map whose bits are so is that map
-pub is-with_bits : (b : Bool) (m l : List ℕ) (a e : ℕ) → length l ≡ length m → Bytes l
+is-with_bits : (b : Bool) (m l : List ℕ) (a e : ℕ) → length l ≡ length m → Bytes l
     → ((k : ℕ) → k < 8 * length m → a ≤ k → k < e → bit_set l k ≡ b)
     → ((k : ℕ) → k < 8 * length m → k < a → bit_set l k ≡ bit_set m k)
     → ((k : ℕ) → k < 8 * length m → e ≤ k → bit_set l k ≡ bit_set m k)
@@ -98,7 +105,7 @@ of : {x y : List ℕ} (k : ℕ) → x ≡ y → bit_set x k ≡ bit_set y k
 of k e = ap (λ (m : List ℕ). bit_set m k) e
 
 -- two ranges one behind the other are one
-pub with-with : (b : Bool) (m l t : List ℕ) (a n e : ℕ) → l ≡ with_bits b m a n → t ≡ with_bits b l n e → a ≤ n → n ≤ e → t ≡ with_bits b m a e
+with-with : (b : Bool) (m l t : List ℕ) (a n e : ℕ) → l ≡ with_bits b m a n → t ≡ with_bits b l n e → a ≤ n → n ≤ e → t ≡ with_bits b m a e
 with-with b m l t a n e p q x y =
     let s : length l ≡ length m = ap length p ∙ length-with_bits b m a n in
     let z : length t ≡ length m = ap length q ∙ length-with_bits b l n e ∙ s in
@@ -114,7 +121,7 @@ with-with b m l t a n e p q x y =
 -- ---- one bit
 
 -- a byte stored among bytes
-bytes-set : (m : List ℕ) (i r : ℕ) → i < length m → Bytes m → r < 256 → Bytes (set m i r)
+pub bytes-set : (m : List ℕ) (i r : ℕ) → i < length m → Bytes m → r < 256 → Bytes (set m i r)
 bytes-set m i r h b l j = go (ℕ_discrete j i)
   where
     go : Dec (j ≡ i) → get_or (set m i r) j 0 < 256
@@ -122,11 +129,11 @@ bytes-set m i r h b l j = go (ℕ_discrete j i)
     go (no d) = rw (get_or-set_other m i j r 0 d) (b j)
 
 -- a bit of the byte that was stored
-bit_set-set-same : (m : List ℕ) (i r k : ℕ) → i < length m → k / 8 ≡ i → bit_set (set m i r) k ≡ bit_of r (k % 8)
+pub bit_set-set-same : (m : List ℕ) (i r k : ℕ) → i < length m → k / 8 ≡ i → bit_set (set m i r) k ≡ bit_of r (k % 8)
 bit_set-set-same m i r k h e = bit_set-is (set m i r) k ∙ rw (e, get_or-set_same m i r 0 h) refl
 
 -- a bit of any other byte
-bit_set-set-other : (m : List ℕ) (i r k : ℕ) → (k / 8 ≡ i → ⊥) → bit_set (set m i r) k ≡ bit_set m k
+pub bit_set-set-other : (m : List ℕ) (i r k : ℕ) → (k / 8 ≡ i → ⊥) → bit_set (set m i r) k ≡ bit_set m k
 bit_set-set-other m i r k d = bit_set-is (set m i r) k ∙ rw (get_or-set_other m i (k / 8) r 0 d) (sym (bit_set-is m k))
 
 -- the bits of a byte with one as asked
@@ -187,51 +194,48 @@ word-bit m n w j e z c h =
     ∙ ap (λ (x : ℕ). bit_of x (j % 8)) (get_d_part m (n / 8) 8 (j / 8) (omega arith))
     ∙ sym (bit_set-is m (n + j) ∙ rw (q, r) refl)
 
--- the store of a word
-put_word : (b : Bool) (m l : List ℕ) (n w : ℕ) → w ≡ (pick b then 0xffffffffffffffff else 0) → l ≡ patch m (n / 8) (le_digits 8 w) → n % 8 ≡ 0 → n + 64 ≤ 8 * length m → Bytes m
-    → l ≡ with_bits b m n (n + 64)
-put_word b m l n w e q z h c =
-    let d : length (le_digits 8 w) ≡ 8 = length-le_digits 8 w in
-    let s : length l ≡ length m = ap length q ∙ length-patch m (n / 8) (le_digits 8 w) (omega arith) in
-    let x : Bytes l = rw q (bytes-patch m (n / 8) (le_digits 8 w) c (bytes-le_digits 8 w)) in
-    let y : w < 256 ^ 8 = rw e (alike-lt b) in
-    let r : w ≡ le (part (n / 8) 8 l) = rw (q, part-patch m (n / 8) 8 (le_digits 8 w) d (omega arith)) (sym (le-le_digits-fits 8 w y)) in
-    is-with_bits b m l n (n + 64) s x
-    (λ k g u v. inside k x r u v)
-    (λ k g u. other k (rw q (get_or-patch-before m (n / 8) (k / 8) (le_digits 8 w) (omega arith) (omega arith))))
-    (λ k g u. other k (rw q (get_or-patch-behind m (n / 8) (k / 8) (le_digits 8 w) (omega arith) (omega arith))))
+-- a part put back is a patch
+put_mid-patch : (m xs : List ℕ) (a k : ℕ) → length xs ≡ k → put_mid a k m xs ≡ patch m a xs
+unfolding patch
+put_mid-patch m xs a k h = rw (drop-drop k a m, ← append_assoc (take a m) xs (drop (a + k) m), ← h) refl
+
+-- a byte whose bits are alike, in each place of a part
+fill-bytes : (b : Bool) (m l : List ℕ) (i k v : ℕ) → l ≡ patch m i (replicate k v) → ((j : ℕ) → j < 8 → bit_of v j ≡ b) → i + k ≤ length m → Bytes l → l ≡ with_bits b m (8 * i) (8 * (i + k))
+fill-bytes b m l i k v q u h c =
+    let d : length (replicate k v) ≡ k = length-replicate k v in
+    let s : length l ≡ length m = ap length q ∙ length-patch m i (replicate k v) (omega arith) in
+    is-with_bits b m l (8 * i) (8 * (i + k)) s c
+    (λ n g y w. inside n d y w)
+    (λ n g y. other n (rw q (get_or-patch-before m i (n / 8) (replicate k v) (omega arith) (omega arith))))
+    (λ n g y. other n (rw q (get_or-patch-behind m i (n / 8) (replicate k v) (omega arith) (omega arith))))
   where
-    inside : (k : ℕ) → Bytes l → w ≡ le (part (n / 8) 8 l) → n ≤ k → k < n + 64 → bit_set l k ≡ b
-    inside k x r u v =
-        let j : k ≡ n + (k - n) = omega arith in
-        ap (bit_set l) j ∙ sym (word-bit l n w (k - n) r z x (omega arith)) ∙ ap (λ (y : ℕ). bit_of y (k - n)) e ∙ bit-alike b (k - n) (omega arith)
+    inside : (n : ℕ) → length (replicate k v) ≡ k → 8 * i ≤ n → n < 8 * (i + k) → bit_set l n ≡ b
+    inside n d y w =
+        let r : i + (n / 8 - i) ≡ n / 8 = omega arith in
+        let g : get_or l (n / 8) 0 ≡ v = rw (q, ← r, get_or-patch m i (n / 8 - i) (replicate k v) (omega arith) (omega arith)) (get_or-replicate k (n / 8 - i) v 0 (omega arith)) in
+        bit_set-is l n ∙ rw g (u (n % 8) (omega arith))
 
-    other : (k : ℕ) → get_or l (k / 8) 0 ≡ get_or m (k / 8) 0 → bit_set l k ≡ bit_set m k
-    other k g = bit_set-is l k ∙ ap (λ (y : ℕ). bit_of y (k % 8)) g ∙ sym (bit_set-is m k)
+    other : (n : ℕ) → get_or l (n / 8) 0 ≡ get_or m (n / 8) 0 → bit_set l n ≡ bit_set m n
+    other n g = bit_set-is l n ∙ ap (λ (y : ℕ). bit_of y (n % 8)) g ∙ sym (bit_set-is m n)
 
--- ---- the loops that fill
+-- ---- what fills a range
 
 -- after one bit more
 pub fill-bit : (b : Bool) (m₀ m l : List ℕ) (a n : ℕ) → m ≡ with_bits b m₀ a n → l ≡ with_bits b m n (n + 1) → a ≤ n → l ≡ with_bits b m₀ a (n + 1)
 fill-bit b m₀ m l a n p q x = with-with b m₀ m l a n (n + 1) p q x (omega arith)
 
--- bit 8 i is the first of byte i
-byte-bit : (i : ℕ) → i ≡ 8 * i / 8
-byte-bit i = omega arith
-
--- before the first word
-pub fill-yet : (b : Bool) (m : List ℕ) (a : ℕ) → a % 8 ≡ 0 → Bytes m → m ≡ with_bits b m a (8 * (a / 8))
-fill-yet b m a z c =
-    let x : 8 * (a / 8) ≡ a = omega arith in
-    rw x (with_none b m a c)
-
--- after one word more
-pub fill-word : (b : Bool) (m₀ m l : List ℕ) (a i w : ℕ) → m ≡ with_bits b m₀ a (8 * i) → w ≡ (pick b then 0xffffffffffffffff else 0) → l ≡ patch m i (le_digits 8 w) → a ≤ 8 * i → 8 * i + 64 ≤ 8 * length m
-    → l ≡ with_bits b m₀ a (8 * (i + 8))
-fill-word b m₀ m l a i w p e q z h =
-    let x : 8 * (i + 8) ≡ 8 * i + 64 = omega arith in
-    let y : l ≡ patch m (8 * i / 8) (le_digits 8 w) = rw (← byte-bit i) q in
-    rw x (with-with b m₀ m l a (8 * i) (8 * i + 64) p (put_word b m l (8 * i) w e y (omega arith) h (rw p (bytes-with_bits b m₀ a (8 * i)))) z (omega arith))
+-- whole bytes
+pub fill-part : (b : Bool) (m xs : List ℕ) (a e v : ℕ) → xs ≡ replicate (length (take (e / 8 - a / 8) (drop (a / 8) m))) v → v ≡ (pick b then 255 else 0) → a % 8 ≡ 0 → e % 8 ≡ 0 → a ≤ e → e ≤ 8 * length m
+    → Bytes (put_mid (a / 8) (e / 8 - a / 8) m xs) → put_mid (a / 8) (e / 8 - a / 8) m xs ≡ with_bits b m a e
+unfolding part
+fill-part b m xs a e v q u x y z w c =
+    let k : ℕ = e / 8 - a / 8 in
+    let n : length (take k (drop (a / 8) m)) ≡ k = length_part m (a / 8) k (omega arith) in
+    let r : xs ≡ replicate k v = rw n at q in
+    let l : put_mid (a / 8) k m xs ≡ patch m (a / 8) (replicate k v) = rw r (put_mid-patch m (replicate k v) (a / 8) k (length-replicate k v)) in
+    let s : 8 * (a / 8) ≡ a = omega arith in
+    let t : 8 * (a / 8 + k) ≡ e = omega arith in
+    rw (s, t) at (fill-bytes b m (put_mid (a / 8) k m xs) (a / 8) k v l (λ j h. ap (λ (n : ℕ). bit_of n j) u ∙ byte-alike b j h) (omega arith) c)
 
 -- three parts one behind the other
 pub fill-three : (b : Bool) (m u v l : List ℕ) (a s t e : ℕ) → u ≡ with_bits b m a s → v ≡ with_bits b u s t → l ≡ with_bits b v t e → a ≤ s → s ≤ t → t ≤ e → l ≡ with_bits b m a e
@@ -239,16 +243,12 @@ fill-three b m u v l a s t e p q r x y z = with-with b m v l a t e (with-with b 
 
 -- ---- the next bit of a kind
 
--- no bit yet
-pub next-yet : (m : List ℕ) (b : Bool) (a : ℕ) → Next m b a a a
-next-yet m b a = record { least = omega arith; most = omega arith; before = λ k p q. absurd (omega arith); found = λ u. absurd (omega arith) }
-
 -- found before the end of a part, it is found in the whole
-pub next-stop : (m : List ℕ) (b : Bool) (a s e r : ℕ) → Next m b a s r → r < s → s ≤ e → Next m b a e r
+next-stop : (m : List ℕ) (b : Bool) (a s e r : ℕ) → Next m b a s r → r < s → s ≤ e → Next m b a e r
 next-stop m b a s e r f h l = record { least = f.least; most = omega arith; before = f.before; found = λ u. f.found h }
 
 -- not found in a part, it is the one found behind it
-pub next-on : (m : List ℕ) (b : Bool) (a s e r t : ℕ) → Next m b a s r → s ≤ r → Next m b s e t → Next m b a e t
+next-on : (m : List ℕ) (b : Bool) (a s e r t : ℕ) → Next m b a s r → s ≤ r → Next m b s e t → Next m b a e t
 next-on m b a s e r t f h g =
     record { least = omega (arith, f.least, f.most, g.least); most = g.most; before = λ k p q. go k p q (dec_lt k r); found = g.found }
   where
@@ -256,34 +256,18 @@ next-on m b a s e r t f h g =
     go k p q (yes l) = f.before k p l
     go k p q (no l) = g.before k (omega arith) q
 
--- a test that two bits are the same
-same_bit : (x y : Bool) → beq x y ≡ true → x ≡ y
-same_bit true true e = refl
-same_bit true false e = sym e
-same_bit false true e = e
-same_bit false false e = refl
+-- found by a look at each bit
+pub next_found : (m : List ℕ) (b : Bool) (a e : ℕ) (r : Option ℕ) → a ≤ e
+    → MatchOption r ((k : ℕ) → a ≤ k → k < e → bit_set m k ≡ not b) (λ n. (a ≤ n) × (n < e) × (bit_set m n ≡ b) × ((k : ℕ) → a ≤ k → k < n → bit_set m k ≡ not b))
+    → NextBefore m b a e r
+next_found m b a e None l h = record { least = l; most = omega arith; before = h; found = λ u. absurd (omega arith) }
+next_found m b a e (Some n) l h = (h.1, record { least = h.0; most = omega arith; before = h.3; found = λ u. h.2 })
 
--- and that they are not
-other-bit : (x y : Bool) → beq x y ≡ false → x ≡ not y
-other-bit true true e = e
-other-bit true false e = refl
-other-bit false true e = refl
-other-bit false false e = sym e
-
--- the bit that was looked at is the one
-pub bit_found : (m : List ℕ) (b r : Bool) (a e n : ℕ) → Next m b a n n → r ≡ bit_set m n → beq r b ≡ true → n < e → Next m b a e n
-bit_found m b r a e n f p q l =
-    next-on m b a n e n n f (omega arith)
-    (record { least = omega arith; most = omega arith; before = λ k x y. absurd (omega arith); found = λ u. sym p ∙ same_bit r b q })
-
--- or it is not
-pub bit-passed : (m : List ℕ) (b r : Bool) (a n : ℕ) → Next m b a n n → r ≡ bit_set m n → beq r b ≡ false → Next m b a (n + 1) (n + 1)
-bit-passed m b r a n f p q =
-    next-on m b a n (n + 1) n (n + 1) f (omega arith)
-    (record { least = omega arith; most = omega arith; before = λ k x y. this k (omega arith); found = λ u. absurd (omega arith) })
-  where
-    this : (k : ℕ) → k ≡ n → bit_set m k ≡ not b
-    this k z = rw z (sym p ∙ other-bit r b q)
+-- the first of a part, and where that has none the first behind it
+pub next_else : (m : List ℕ) (b : Bool) (a s e : ℕ) (x r : Option ℕ) (P : Type 0) → NextBefore m b a s x → s ≤ e → MatchOption x P (λ n. r ≡ Some n) → (P → NextBefore m b s e r) → NextBefore m b a e r
+next_else m b a s e (Some n) r P h l g f = rw g (omega arith, next-stop m b a s e n h.1 h.0 l)
+next_else m b a s e None None P h l g f = next-on m b a s e s e h (omega arith) (f g)
+next_else m b a s e None (Some n) P h l g f = ((f g).0, next-on m b a s e s n h (omega arith) (f g).1)
 
 -- the first bit of a word is the next bit of the map
 pub word_next : (m : List ℕ) (b : Bool) (n w t : ℕ) → w ≡ le (part (n / 8) 8 m) → n % 8 ≡ 0 → Bytes m → First w b t → Next m b n (n + 64) (n + t)
@@ -301,57 +285,45 @@ word_next m b n w t e z c f =
         let y : n + (k - n) ≡ k = omega arith in
         ap (bit_set m) (sym y) ∙ sym (word-bit m n w (k - n) e z c q) ∙ g
 
--- before the first word
-pub words-yet : (m : List ℕ) (b : Bool) (a : ℕ) → a % 8 ≡ 0 → Next m b a (8 * (a / 8)) (8 * (a / 8))
-words-yet m b a z =
-    let x : 8 * (a / 8) ≡ a = omega arith in
-    rw x (next-yet m b a)
-
--- the word at byte i
-word-here : (m : List ℕ) (b : Bool) (i w t : ℕ) → w ≡ le (part i 8 m) → Bytes m → First w b t → Next m b (8 * i) (8 * i + 64) (8 * i + t)
-word-here m b i w t q c g = word_next m b (8 * i) w t (rw (← byte-bit i) q) (omega arith) c g
-
--- the word that was looked at has the bit: it is not the word v, which has none
-pub word-found : (m : List ℕ) (b : Bool) (a e i w v t : ℕ) → Next m b a (8 * i) (8 * i) → w ≡ le (part i 8 m) → w < 2 ^ 64 → v ≡ (pick not b then 0xffffffffffffffff else 0) → (w ≡ v → ⊥) → First w b t → Bytes m → 8 * i + 64 ≤ e
-    → Next m b a e (8 * i + t)
-word-found m b a e i w v t f q h p d g c l =
-    let n : t < 64 = first_some w b v t p d h g in
-    next-on m b a (8 * i) e (8 * i) (8 * i + t) f (omega arith) (next-stop m b (8 * i) (8 * i + 64) e (8 * i + t) (word-here m b i w t q c g) (omega arith) l)
+-- the word at bit n has the bit: it is not the word v, which has none
+pub word-found : (m : List ℕ) (b : Bool) (a e n w v t : ℕ) → Next m b a n n → w ≡ le (part (n / 8) 8 m) → w < 2 ^ 64 → v ≡ (pick not b then 0xffffffffffffffff else 0) → (w ≡ v → ⊥) → First w b t → Bytes m → n % 8 ≡ 0 → n + 64 ≤ e
+    → (n + t < e) × Next m b a e (n + t)
+word-found m b a e n w v t f q h p d g c z l =
+    let u : t < 64 = first_some w b v t p d h g in
+    (omega arith, next-on m b a n e n (n + t) f (omega arith) (next-stop m b n (n + 64) e (n + t) (word_next m b n w t q z c g) (omega arith) l))
 
 -- or it is that word
-pub word-passed : (m : List ℕ) (b : Bool) (a i w v : ℕ) → Next m b a (8 * i) (8 * i) → w ≡ le (part i 8 m) → v ≡ (pick not b then 0xffffffffffffffff else 0) → w ≡ v → Bytes m → Next m b a (8 * (i + 8)) (8 * (i + 8))
-word-passed m b a i w v f q p d c =
-    let x : 8 * (i + 8) ≡ 8 * i + 64 = omega arith in
-    rw x (next-on m b a (8 * i) (8 * i + 64) (8 * i) (8 * i + 64) f (omega arith) (word-here m b i w 64 q c (first-none w b (d ∙ p))))
+pub word-passed : (m : List ℕ) (b : Bool) (a n w v : ℕ) → Next m b a n n → w ≡ le (part (n / 8) 8 m) → v ≡ (pick not b then 0xffffffffffffffff else 0) → w ≡ v → Bytes m → n % 8 ≡ 0 → Next m b a (n + 64) (n + 64)
+word-passed m b a n w v f q p d c z = next-on m b a n (n + 64) n (n + 64) f (omega arith) (word_next m b n w 64 q z c (first-none w b (d ∙ p)))
 
--- a range passed to its end
-pub next-end : (m : List ℕ) (b : Bool) (a e n : ℕ) → Next m b a n n → n ≡ e → Next m b a e e
-next-end m b a e n f x = rw x at f
+-- the bit of a word, or none
+pub word-one : (m : List ℕ) (b : Bool) (n w t : ℕ) → w ≡ le (part (n / 8) 8 m) → n % 8 ≡ 0 → Bytes m → First w b t → 64 ≤ t → Next m b n (n + 64) (n + 64)
+word-one m b n w t e z c f h =
+    let s : t ≡ 64 = omega (arith, f.most) in
+    rw s at (word_next m b n w t e z c f)
 
 -- ---- a test of each bit of a range
 
--- the next bit of the other kind is the end if the test passes at every bit
-next-all : (m : List ℕ) (b : Bool) (f : ℕ → Bool) (a e r : ℕ) → Next m b a e r → ((k : ℕ) → bit_set m k ≡ not b → f k ≡ true) → ((k : ℕ) → bit_set m k ≡ b → f k ≡ false) → a ≤ e
-    → eqb r e ≡ all f (range a (e - a))
-next-all m b f a e r x t u l = go (ℕ_discrete r e)
-  where
-    go : Dec (r ≡ e) → eqb r e ≡ all f (range a (e - a))
-    go (yes z) = eq-eqb r e z ∙ sym (all-range-of f a (e - a) (λ i h. t (a + i) (x.before (a + i) (omega arith) (omega arith))))
-    go (no z) =
-        let o : a ≤ r = x.least in
-        let v : r < e = omega (arith, x.most) in
-        let y : a + (r - a) ≡ r = omega arith in
-        ne_eqb r e z
-        ∙ sym (test-cases (all f (range a (e - a)) ≡ false) (all f (range a (e - a)))
-        (λ p. absurd (clash (u r (x.found v)) (ap f (sym y) ∙ all-range-at f a (e - a) p (r - a) (omega arith)))) (λ p. p))
+-- there is no next bit of the other kind if the test passes at every bit
+next-all : (m : List ℕ) (b : Bool) (f : ℕ → Bool) (a e : ℕ) (r : Option ℕ) (t : Bool) → NextBefore m b a e r → is_some r ≡ not t → ((k : ℕ) → bit_set m k ≡ not b → f k ≡ true) → ((k : ℕ) → bit_set m k ≡ b → f k ≡ false) → a ≤ e
+    → t ≡ all f (range a (e - a))
+next-all m b f a e None t x h p q l =
+    not-swap t false (sym h) ∙ sym (all-range-of f a (e - a) (λ i g. p (a + i) (x.before (a + i) (omega arith) (omega arith))))
+next-all m b f a e (Some n) t x h p q l =
+    let v : n < e = x.0 in
+    let o : a ≤ n = x.1.least in
+    let y : a + (n - a) ≡ n = omega arith in
+    not-swap t true (sym h)
+    ∙ sym (test-cases (all f (range a (e - a)) ≡ false) (all f (range a (e - a)))
+    (λ z. absurd (clash (q n (x.1.found v)) (ap f (sym y) ∙ all-range-at f a (e - a) z (n - a) (omega arith)))) (λ z. z))
 
--- every bit is set if the next clear one is the end
-pub next-all-set : (m : List ℕ) (a e r : ℕ) → Next m false a e r → a ≤ e → eqb r e ≡ all (bit_set m) (range a (e - a))
-next-all-set m a e r x l = next-all m false (bit_set m) a e r x (λ k p. p) (λ k p. p) l
+-- every bit is set if there is no clear one
+pub next-all-set : (m : List ℕ) (a e : ℕ) (r : Option ℕ) (t : Bool) → NextBefore m false a e r → is_some r ≡ not t → a ≤ e → t ≡ all (bit_set m) (range a (e - a))
+next-all-set m a e r t x h l = next-all m false (bit_set m) a e r t x h (λ k p. p) (λ k p. p) l
 
--- every bit is clear if the next set one is the end
-pub next-all-clear : (m : List ℕ) (a e r : ℕ) → Next m true a e r → a ≤ e → eqb r e ≡ all (λ k. not (bit_set m k)) (range a (e - a))
-next-all-clear m a e r x l = next-all m true (λ k. not (bit_set m k)) a e r x (λ k p. ap not p) (λ k p. ap not p) l
+-- every bit is clear if there is no set one
+pub next-all-clear : (m : List ℕ) (a e : ℕ) (r : Option ℕ) (t : Bool) → NextBefore m true a e r → is_some r ≡ not t → a ≤ e → t ≡ all (λ k. not (bit_set m k)) (range a (e - a))
+next-all-clear m a e r t x h l = next-all m true (λ k. not (bit_set m k)) a e r t x h (λ k p. ap not p) (λ k p. ap not p) l
 
 -- ---- how many
 
@@ -367,11 +339,6 @@ count-front f a n =
     (λ e. count_yes f a (range (suc a) n) e ∙ sym (one-add (count f (range (suc a) n))))
     (λ e. count_no f a (range (suc a) n) e ∙ sym (zero-add (count f (range (suc a) n))))
 
--- one bit
-count-one : (f : ℕ → Bool) (a : ℕ) → count f (range a 1) ≡ (pick f a then 1 else 0)
-unfolding count filter range
-count-one f a = count-front f a 0 ∙ add-zero (pick f a then 1 else 0)
-
 -- the bits of a word, one by one, are as many as its ones
 count_ones : (f : ℕ → Bool) (s k w : ℕ) → w < 2 ^ k → ((j : ℕ) → j < k → f (s + j) ≡ bit_of w j) → count f (range s k) ≡ ones w
 unfolding count filter range ones
@@ -385,32 +352,35 @@ count_ones f s (suc k) w h e =
     (count_ones f (suc s) k (w / 2) (omega arith) (λ j l. ap f (suc-add s j ∙ sym (add-suc s j)) ∙ e (suc j) (omega arith) ∙ bit-half w j))
     ∙ sym (ones_step w)
 
--- no bit yet
-pub count_none : (f : ℕ → Bool) (a : ℕ) → 0 ≡ count f (range a (a - a))
+-- no word yet
+pub count_none : (f : ℕ → Bool) (a : ℕ) → 0 ≡ count f (range a (64 * 0))
 unfolding count filter range
-count_none f a = rw (sub_self a) refl
+count_none f a = refl
 
--- after one bit more
-pub count-bit : (m : List ℕ) (a n t r : ℕ) (x : Bool) → t ≡ count (bit_set m) (range a (n - a)) → x ≡ bit_set m n → r ≡ (pick x then 1 else 0) → a ≤ n → t + r ≡ count (bit_set m) (range a (n + 1 - a))
-count-bit m a n t r x e p q l =
-    let d : n + 1 - a ≡ n - a + 1 = omega arith in
-    let y : a + (n - a) ≡ n = omega arith in
-    rw (d, count_add (bit_set m) a (n - a) 1, y, e, count-one (bit_set m) n, q, p) refl
+-- the library's ranges and filters are those of the rules
+range_same : (a n : ℕ) → range_with_len a n ≡ range a n
+unfolding range
+range_same a zero = refl
+range_same a (suc n) = ap (λ (xs : List ℕ). a ∷ xs) (rw add-one (range_same (suc a) n))
 
--- before the first word
-pub count-yet : (f : ℕ → Bool) (a : ℕ) → a % 8 ≡ 0 → 0 ≡ count f (range a (8 * (a / 8) - a))
-count-yet f a z =
-    let x : 8 * (a / 8) ≡ a = omega arith in
-    rw x (count_none f a)
+filter_same : (f : ℕ → Bool) (xs : List ℕ) → std.filter f xs ≡ filter f xs
+unfolding filter
+filter_same f [] = refl
+filter_same f (x ∷ xs) = if-cases (λ (ys : List ℕ). std.filter f (x ∷ xs) ≡ ys) (f x) (x ∷ filter f xs) (filter f xs) (λ e. rw e (ap (λ (ys : List ℕ). x ∷ ys) (filter_same f xs))) (λ e. rw e (filter_same f xs))
+
+-- bit by bit
+pub count_bits : (f : ℕ → Bool) (a e r : ℕ) → r ≡ length (std.filter f (range_with_len a (e - a))) → r ≡ count f (range a (e - a))
+unfolding count
+count_bits f a e r h = h ∙ ap length (filter_same f (range_with_len a (e - a)) ∙ ap (filter f) (range_same a (e - a)))
 
 -- after one word more
-pub count_word : (m : List ℕ) (a i t w : ℕ) → t ≡ count (bit_set m) (range a (8 * i - a)) → w ≡ le (part i 8 m) → w < 2 ^ 64 → a ≤ 8 * i → Bytes m
-    → t + ones w ≡ count (bit_set m) (range a (8 * (i + 8) - a))
-count_word m a i t w e q h l c =
-    let d : 8 * (i + 8) - a ≡ 8 * i - a + 64 = omega arith in
-    let y : a + (8 * i - a) ≡ 8 * i = omega arith in
-    let p : w ≡ le (part (8 * i / 8) 8 m) = rw (← byte-bit i) q in
-    rw (d, count_add (bit_set m) a (8 * i - a) 64, y, e, count_ones (bit_set m) (8 * i) 64 w h (λ j g. sym (word-bit m (8 * i) w j p (omega arith) c g))) refl
+pub count_word : (m : List ℕ) (a k t w : ℕ) → t ≡ count (bit_set m) (range a (64 * k)) → w ≡ le (part (a / 8 + 8 * k) 8 m) → w < 2 ^ 64 → a % 8 ≡ 0 → Bytes m
+    → t + ones w ≡ count (bit_set m) (range a (64 * (k + 1)))
+count_word m a k t w e q h z c =
+    let d : 64 * (k + 1) ≡ 64 * k + 64 = omega arith in
+    let y : (a + 64 * k) / 8 ≡ a / 8 + 8 * k = omega arith in
+    let p : w ≡ le (part ((a + 64 * k) / 8) 8 m) = rw y q in
+    rw (d, count_add (bit_set m) a (64 * k) 64, e, count_ones (bit_set m) (a + 64 * k) 64 w h (λ j g. sym (word-bit m (a + 64 * k) w j p (omega arith) c g))) refl
 
 -- at most every bit is set
 pub count_most : (f : ℕ → Bool) (a n t : ℕ) → t ≡ count f (range a n) → t ≤ n

@@ -1,6 +1,6 @@
 -- Maps of bits, in the terms of the rules: a map with a range of its bits made alike, and the next bit of a kind.
 -- Assumes nothing.
-use Rattle.std.specs.Prelude.{◌≡◌, Bool, not, ◌&&◌, List, ℕ, ◌/◌, ◌%◌, ◌^◌, ◌≤◌, ◌<◌, eqb, leb, ltb, length}
+use Rattle.std.specs.Prelude.{◌≡◌, Bool, not, ◌&&◌, List, ℕ, ◌*◌, ◌/◌, ◌%◌, ◌^◌, ◌≤◌, ◌<◌, eqb, leb, ltb, length, Option, MatchOption}
 use Rattle.rules.specs.Lists.{pick◌then◌else◌}
 use Rattle.rules.specs.Bytes.{bit_set, byte_of, bit_bytes}
 
@@ -11,6 +11,10 @@ bit_of x k = eqb (x / 2 ^ k % 2) 1
 -- k is from a on and before e
 unfoldable pub within : ℕ → ℕ → ℕ → Bool
 within a e k = leb a k && ltb k e
+
+-- the bits from a to e are bits of the map
+abbrev pub InMap : List ℕ → ℕ → ℕ → Type 0
+InMap m a e = (a ≤ e) × (e ≤ 8 * length m)
 
 -- a byte with its bit k as b says
 unfoldable pub with_bit : ℕ → ℕ → Bool → ℕ
@@ -32,3 +36,7 @@ pub record Next (m : List ℕ) (b : Bool) (a e r : ℕ) : Type 0 where
   pub most : r ≤ e
   pub before : (k : ℕ) → a ≤ k → k < r → bit_set m k ≡ not b
   pub found : r < e → bit_set m r ≡ b
+
+-- r is the first bit of the map from a on and before e that is b, and there is none where nothing stands there
+abbrev pub NextBefore : List ℕ → Bool → ℕ → ℕ → Option ℕ → Type 0
+NextBefore m b a e r = MatchOption r (Next m b a e e) (λ n. (n < e) × Next m b a e n)

@@ -3,19 +3,19 @@
 use mathlib.Core.Path.{◌≡◌, refl, sym, ap, ◌∙◌}
 use mathlib.Core.Bool.{Bool, true, false, not, ◌&&◌, ◌||◌}
 use mathlib.Core.List.{List}
-use Prim.Native.Nat.{ℕ, zero, suc, ◌+◌, ◌-◌, ◌*◌, ◌/◌, ◌%◌, ◌^◌, ◌≤◌, ◌<◌}
-use native.Mathlib.Nat.{zero-mul, suc-mul, mul_comm, eq_of_mul-eq-mul_right, mul-mod_left, mod-lt, div-add-mod', add_comm, sub_self}
+use Prim.Native.Nat.{ℕ, ◌+◌, ◌-◌, ◌*◌, ◌/◌, ◌%◌, ◌^◌, ◌≤◌, ◌<◌}
+use native.Mathlib.Nat.{mul_comm, eq_of_mul-eq-mul_right, mul-mod_left, mod-lt, div-add-mod', add_comm}
 use native.Mathlib.Omega.{arith}
 use borrow.Author.Tests.{eqb-true, eq-eqb, not-true, not-false}
 use lib.Bits.{bit_and, bit_or, and_lt}
 use lib.Dec.{eqb}
 use lib.ListN.{length}
-use lib.Pow.{pow_pos, shl-shr, shr-shr, mod-pow-add}
+use lib.Pow.{pow_pos, shr_lt, shl-shr, shr-shr, mod-pow-add}
 use Rattle.rules.specs.Lists.{pick◌then◌else◌, all, range}
 use Rattle.rules.specs.Bytes.{le, part, Bytes, bit_set}
 use Rattle.rules.proofs.ListLaws.{and_left, and_right, and_intro, all_append, all-range-at, all-range-of, range-add}
 use Rattle.bitmap.specs.Map.{bit_of}
-use Rattle.bitmap_pairs.specs.Pair.{only, inside, Holds, Fails}
+use Rattle.bitmap_pairs.specs.Pair.{only, inside, Holds}
 use Rattle.bitmap.proofs.BitLaws.{bit-zero, bit-or, bit-and, bit_not, bit_below, bit-alike, bits-same}
 use Rattle.bitmap.proofs.MapLaws.{word-bit}
 
@@ -39,7 +39,7 @@ range_same f g a b n h =
     (λ e. all-range-of f a n (λ i l. h i l ∙ all-range-at g b n e i l))
 
 -- a range in two parts
-pub all-add : (f : ℕ → Bool) (a n m : ℕ) → all f (range a (n + m)) ≡ (all f (range a n) && all f (range (a + n) m))
+all-add : (f : ℕ → Bool) (a n m : ℕ) → all f (range a (n + m)) ≡ (all f (range a n) && all f (range (a + n) m))
 all-add f a n m = ap (all f) (range-add a n m) ∙ all_append f (range a n) (range (a + n) m)
 
 -- two parts one behind the other
@@ -76,22 +76,15 @@ moved y n h =
     mod-pow-add (y * 2 ^ (64 - n)) n (64 - n) ∙ rw (shl-shr y (64 - n), z) refl in
     ap (λ (e : ℕ). y * 2 ^ (64 - n) % 2 ^ e) (sym k) ∙ g ∙ omega arith
 
--- a product with a number above zero that is zero
-left-zero : (x p : ℕ) → 0 < p → x * p ≡ 0 → x ≡ 0
-left-zero zero p l e = refl
-left-zero (suc x) p l e = absurd (omega (arith, suc-mul x p))
-
--- the test of n bits of a word
-pub clear-part : (w s n : ℕ) → n ≤ 64 → eqb (w / 2 ^ s * 2 ^ (64 - n) % 2 ^ 64) 0 ≡ all (λ j. not (bit_of w j)) (range s n)
-clear-part w s n h =
-    zero-says (w / 2 ^ s * 2 ^ (64 - n) % 2 ^ 64) (all (λ j. not (bit_of w j)) (range s n))
-    (λ e. let z : w / 2 ^ s % 2 ^ n ≡ 0 = left-zero (w / 2 ^ s % 2 ^ n) (2 ^ (64 - n)) (pow_pos (64 - n)) (sym (moved (w / 2 ^ s) n h) ∙ e) in
-    all-range-of (λ j. not (bit_of w j)) s n
-    (λ i l. ap not (sym (bit_shifted w s i) ∙ sym (bit-low-part (w / 2 ^ s) n i l) ∙ ap (λ (x : ℕ). bit_of x i) z ∙ bit-zero i)))
-    (λ e. let z : w / 2 ^ s % 2 ^ n ≡ 0 =
-    bits-same n (w / 2 ^ s % 2 ^ n) 0 (mod-lt (w / 2 ^ s) (pow_pos n)) (pow_pos n)
-    (λ j l. bit-low-part (w / 2 ^ s) n j l ∙ bit_shifted w s j ∙ not-true (bit_of w (s + j)) (all-range-at (λ j. not (bit_of w j)) s n e j l) ∙ sym (bit-zero j)) in
-    moved (w / 2 ^ s) n h ∙ rw (z, zero-mul (2 ^ (64 - n))) refl)
+-- the test of the bits of a word from bit s on
+high-clear : (w s : ℕ) → s ≤ 64 → w < 2 ^ 64 → eqb (w / 2 ^ s) 0 ≡ all (λ j. not (bit_of w j)) (range s (64 - s))
+high-clear w s h l =
+    let e : 64 - s + s ≡ 64 = omega arith in
+    let k : w < 2 ^ (64 - s + s) = rw e l in
+    zero-says (w / 2 ^ s) (all (λ j. not (bit_of w j)) (range s (64 - s)))
+    (λ z. all-range-of (λ j. not (bit_of w j)) s (64 - s) (λ i o. ap not (sym (bit_shifted w s i) ∙ ap (λ (x : ℕ). bit_of x i) z ∙ bit-zero i)))
+    (λ z. bits-same (64 - s) (w / 2 ^ s) 0 (shr_lt (64 - s) s k) (pow_pos (64 - s))
+    (λ j o. bit_shifted w s j ∙ not-true (bit_of w (s + j)) (all-range-at (λ j. not (bit_of w j)) s (64 - s) z j o) ∙ sym (bit-zero j)))
 
 -- numbers are equal where a test passes
 equal-says : (x y : ℕ) (b : Bool) → (x ≡ y → b ≡ true) → (b ≡ true → x ≡ y) → eqb x y ≡ b
@@ -115,7 +108,7 @@ set-part w s n h =
     moved (w / 2 ^ s) n h ∙ ap (λ (x : ℕ). x * 2 ^ (64 - n)) z ∙ sym (moved 0xffffffffffffffff n h))
 
 -- the test of n bits of the word of those that pass
-pub holds-part : (f : ℕ → Bool) (a w s n : ℕ) (r : Bool) → Holds f a w → s + n ≤ 64 → r ≡ all (bit_of w) (range s n) → r ≡ all f (range (a + s) n)
+holds-part : (f : ℕ → Bool) (a w s n : ℕ) (r : Bool) → Holds f a w → s + n ≤ 64 → r ≡ all (bit_of w) (range s n) → r ≡ all f (range (a + s) n)
 holds-part f a w s n r h l e = e ∙ range_same (bit_of w) f s (a + s) n (λ i m. h.bits (s + i) (omega arith) ∙ ap f (omega arith))
 
 -- a word all of whose bits pass
@@ -139,18 +132,8 @@ and-ones x y l m =
     bits : bit_and x y ≡ 0xffffffffffffffff → (j : ℕ) → j < 64 → (bit_of x j && bit_of y j) ≡ true
     bits e j h = sym (bit-and x y j) ∙ ap (λ (z : ℕ). bit_of z j) e ∙ bit-ones j h
 
--- an inversion on the other side
-not-other : (a b : Bool) → a ≡ not b → not a ≡ b
-not-other a true e = rw e refl
-not-other a false e = rw e refl
-
--- the test of n bits of the word of those that fail
-pub fails-part : (f : ℕ → Bool) (a w s n : ℕ) (r : Bool) → Fails f a w → s + n ≤ 64 → r ≡ all (λ j. not (bit_of w j)) (range s n) → r ≡ all f (range (a + s) n)
-fails-part f a w s n r h l e =
-    e ∙ range_same (λ j. not (bit_of w j)) f s (a + s) n (λ i m. not-other (bit_of w (s + i)) (f (a + s + i)) (h.bits (s + i) (omega arith) ∙ ap (λ (k : ℕ). not (f k)) (omega arith)))
-
 -- a word without a bit that fails
-fails-none : (f : ℕ → Bool) (a w : ℕ) → w < 2 ^ 64 → Fails f a w → eqb w 0 ≡ all f (range a 64)
+fails-none : (f : ℕ → Bool) (a w : ℕ) → w < 2 ^ 64 → Holds (λ k. not (f k)) a w → eqb w 0 ≡ all f (range a 64)
 fails-none f a w l h =
     zero-says w (all f (range a 64))
     (λ e. all-range-of f a 64 (λ i m. not-false (f (a + i)) (sym (h.bits i m) ∙ ap (λ (x : ℕ). bit_of x i) e ∙ bit-zero i)))
@@ -179,86 +162,47 @@ or-zero x y l m =
 
 -- ---- the loop over words
 
--- before the first word
-pub failed-yet : (f : ℕ → Bool) (i : ℕ) → eqb 0 0 ≡ all f (range (8 * i) (8 * (i - i)))
-unfolding all range
-failed-yet f i = rw (sub_self i) refl
-
 -- after one word more
-pub failed-more : (f : ℕ → Bool) (i k t w : ℕ) → eqb t 0 ≡ all f (range (8 * i) (8 * (k - i))) → Fails f (8 * k) w → t < 2 ^ 64 → w < 2 ^ 64 → i ≤ k
-    → eqb (bit_or t w) 0 ≡ all f (range (8 * i) (8 * (k + 8 - i)))
-failed-more f i k t w e h l m o =
-    let d : 8 * (k + 8 - i) ≡ 8 * (k - i) + 64 = omega arith in
-    let g : 8 * i + 8 * (k - i) ≡ 8 * k = omega arith in
-    or-zero t w l m ∙ rw (d, all-add f (8 * i) (8 * (k - i)) 64, g, e, fails-none f (8 * k) w m h) refl
+pub failed-more : (f : ℕ → Bool) (a b k t w : ℕ) → eqb t 0 ≡ all f (range a (64 * k)) → Holds (λ j. not (f j)) b w → b ≡ a + 64 * k → t < 2 ^ 64 → w < 2 ^ 64 → eqb (bit_or t w) 0 ≡ all f (range a (64 * (k + 1)))
+failed-more f a b k t w e h g l m =
+    let d : 64 * (k + 1) ≡ 64 * k + 64 = omega arith in
+    or-zero t w l m ∙ rw (d, all-add f a (64 * k) 64, ← g, e, fails-none f b w m h) refl
 
--- the same of words of the bits that pass: before the first
-pub passed-yet : (f : ℕ → Bool) (i : ℕ) → eqb 0xffffffffffffffff 0xffffffffffffffff ≡ all f (range (8 * i) (8 * (i - i)))
-unfolding all range
-passed-yet f i = rw (sub_self i) refl
-
--- after one more
-pub passed-more : (f : ℕ → Bool) (i k t w : ℕ) → eqb t 0xffffffffffffffff ≡ all f (range (8 * i) (8 * (k - i))) → Holds f (8 * k) w → t < 2 ^ 64 → w < 2 ^ 64 → i ≤ k
-    → eqb (bit_and t w) 0xffffffffffffffff ≡ all f (range (8 * i) (8 * (k + 8 - i)))
-passed-more f i k t w e h l m o =
-    let d : 8 * (k + 8 - i) ≡ 8 * (k - i) + 64 = omega arith in
-    let g : 8 * i + 8 * (k - i) ≡ 8 * k = omega arith in
-    and-ones t w l m ∙ rw (d, all-add f (8 * i) (8 * (k - i)) 64, g, e, holds-all f (8 * k) w m h) refl
+-- the same of words of the bits that pass
+pub passed-more : (f : ℕ → Bool) (a b k t w : ℕ) → eqb t 0xffffffffffffffff ≡ all f (range a (64 * k)) → Holds f b w → b ≡ a + 64 * k → t < 2 ^ 64 → w < 2 ^ 64
+    → eqb (bit_and t w) 0xffffffffffffffff ≡ all f (range a (64 * (k + 1)))
+passed-more f a b k t w e h g l m =
+    let d : 64 * (k + 1) ≡ 64 * k + 64 = omega arith in
+    and-ones t w l m ∙ rw (d, all-add f a (64 * k) 64, ← g, e, holds-all f b w m h) refl
 
 -- ---- the words of two maps
-
--- where a bit is not inside the first map
-not-or : (a b : Bool) → (not a && b) ≡ not (not b || a)
-not-or true true = refl
-not-or true false = refl
-not-or false true = refl
-not-or false false = refl
 
 -- the first bit of byte i
 byte-first : (i : ℕ) → i ≡ 8 * i / 8
 byte-first i = omega arith
 
-module _ (m x : List ℕ) (i a b : ℕ) (p : a ≡ le (part i 8 m)) (q : b ≡ le (part i 8 x)) (l : a < 2 ^ 64) (o : b < 2 ^ 64) (c : Bytes m) (d : Bytes x) where
-  -- a bit of the first word
-  bit-first : (j : ℕ) → j < 64 → bit_of a j ≡ bit_set m (8 * i + j)
-  bit-first j h = word-bit m (8 * i) a j (rw (← byte-first i) p) (omega arith) c h
+-- a word of the first map, and one of the second inverted: the bits that are only in the first map
+pub holds-only : (m x : List ℕ) (i a b : ℕ) → a ≡ le (part i 8 m) → b ≡ le (part i 8 x) → b < 2 ^ 64 → Bytes m → Bytes x → Holds (only m x) (8 * i) (bit_and a (2 ^ 64 - 1 - b))
+unfolding only
+holds-only m x i a b p q o c d = record { bits = λ j h. bit-and a (2 ^ 64 - 1 - b) j ∙ rw (bit_not 64 b j o h, bit m a p c j h, bit x b q d j h) refl }
+  where
+    bit : (s : List ℕ) (w : ℕ) → w ≡ le (part i 8 s) → Bytes s → (j : ℕ) → j < 64 → bit_of w j ≡ bit_set s (8 * i + j)
+    bit s w e y j h = word-bit s (8 * i) w j (rw (← byte-first i) e) (omega arith) y h
 
-  -- of the second
-  bit-second : (j : ℕ) → j < 64 → bit_of b j ≡ bit_set x (8 * i + j)
-  bit-second j h = word-bit x (8 * i) b j (rw (← byte-first i) q) (omega arith) d h
-
-  -- the first, and the second inverted: the bits that are only in the first map
-  pub holds-only : Holds (only m x) (8 * i) (bit_and a (2 ^ 64 - 1 - b))
-  unfolding only
-  holds-only = record { bits = λ j h. bit-and a (2 ^ 64 - 1 - b) j ∙ rw (bit_not 64 b j o h, bit-first j h, bit-second j h) refl }
-
-  -- the first inverted, and the second: the bits that are not inside the first map
-  pub fails-inside : Fails (inside m x) (8 * i) (bit_and (2 ^ 64 - 1 - a) b)
-  unfolding inside
-  fails-inside = record {
-    bits = λ j h.
-        bit-and (2 ^ 64 - 1 - a) b j
-        ∙ rw (bit_not 64 a j l h, bit-first j h, bit-second j h) (not-or (bit_set m (8 * i + j)) (bit_set x (8 * i + j)));
-  }
-
--- a double inversion
-twice : (b : Bool) → b ≡ not (not b)
-twice true = refl
-twice false = refl
-
--- a word of one map: the bits that are not clear
-pub fails-clear : (m : List ℕ) (i w : ℕ) → w ≡ le (part i 8 m) → Bytes m → Fails (λ k. not (bit_set m k)) (8 * i) w
-fails-clear m i w p c = record { bits = λ j h. word-bit m (8 * i) w j (rw (← byte-first i) p) (omega arith) c h ∙ twice (bit_set m (8 * i + j)) }
+-- the maps the other way round: the bits that are not inside the first map
+pub holds-outside : (m x : List ℕ) (a w : ℕ) → Holds (only x m) a w → Holds (λ k. not (inside m x k)) a w
+unfolding only inside
+holds-outside m x a w h = record { bits = λ j l. h.bits j l ∙ outside (bit_set m (a + j)) (bit_set x (a + j)) }
+  where
+    outside : (u v : Bool) → (v && not u) ≡ not (not v || u)
+    outside true true = refl
+    outside true false = refl
+    outside false true = refl
+    outside false false = refl
 
 -- ---- in the shape of the functions' needs
 
 -- bits of one word, the word that holds bit a
-pub part_of : (f : ℕ → Bool) (a w n : ℕ) (r : Bool) → Fails f (8 * (a / 64 * 8)) w → r ≡ all (λ j. not (bit_of w j)) (range (a % 64) n) → a % 64 + n ≤ 64 → r ≡ all f (range a n)
-part_of f a w n r h e l =
-    let d : 8 * (a / 64 * 8) + a % 64 ≡ a = omega arith in
-    rw d at (fails-part f (8 * (a / 64 * 8)) w (a % 64) n r h l e)
-
--- the same of the word of those that pass
 pub holds_of : (f : ℕ → Bool) (a w n : ℕ) (r : Bool) → Holds f (8 * (a / 64 * 8)) w → r ≡ all (bit_of w) (range (a % 64) n) → a % 64 + n ≤ 64 → r ≡ all f (range a n)
 holds_of f a w n r h e l =
     let d : 8 * (a / 64 * 8) + a % 64 ≡ a = omega arith in
@@ -300,27 +244,22 @@ last-part f a n s t e r q o z p k g h x y v w i =
     rw (all_two f a s e (omega arith) (omega arith), all_two f s t e v w, c, u, ← p, not-false r k) i
 
 -- past the last word nothing is left
-pub clear_none : (m : List ℕ) (a : ℕ) → a % 64 ≡ 0 → a ≤ 8 * length m → 8 * length m < a + 64 → length m % 8 ≡ 0 → true ≡ all (λ k. not (bit_set m k)) (range a (8 * length m - a))
+pub clear_none : (m : List ℕ) (a : ℕ) → a % 64 ≡ 0 → a ≤ 8 * length m → 8 * length m < a + 64 → length m % 8 ≡ 0 → eqb (a % 64) 0 ≡ all (λ k. not (bit_set m k)) (range a (8 * length m - a))
 clear_none m a z l h o =
     let d : 8 * length m - a ≡ 0 = omega arith in
-    rw d (sym (all_none (λ k. not (bit_set m k)) a))
+    rw d (eq-eqb (a % 64) 0 z ∙ sym (all_none (λ k. not (bit_set m k)) a))
 
 -- the rest of the last word
-pub clear-last : (m : List ℕ) (a w : ℕ) (r : Bool) → w ≡ le (part (a / 64 * 8) 8 m) → r ≡ all (λ j. not (bit_of w j)) (range (a % 64) (64 - a % 64)) → (a % 64 ≡ 0 → ⊥) → a ≤ 8 * length m → 8 * length m < a + 64 → length m % 8 ≡ 0 → Bytes m
-    → r ≡ all (λ k. not (bit_set m k)) (range a (8 * length m - a))
-clear-last m a w r p e z l h o c =
+pub clear-last : (m : List ℕ) (a w : ℕ) → w ≡ le (part (a / 64 * 8) 8 m) → (a % 64 ≡ 0 → ⊥) → a ≤ 8 * length m → 8 * length m < a + 64 → length m % 8 ≡ 0 → w < 2 ^ 64 → Bytes m
+    → eqb (w / 2 ^ (a % 64)) 0 ≡ all (λ k. not (bit_set m k)) (range a (8 * length m - a))
+clear-last m a w p z l h o y c =
     let k : length m ≡ 8 * (length m / 8) = omega arith in
     let u : length m / 8 ≤ a / 64 + 1 = omega arith in
     let v : a / 64 + 1 ≤ length m / 8 = omega arith in
     let d : 8 * length m - a ≡ 64 - a % 64 = omega arith in
-    rw d (part_of (λ k. not (bit_set m k)) a w (64 - a % 64) r (fails-clear m (a / 64 * 8) w p c) e (omega arith))
-
--- all words were put together
-pub failed-end : (f : ℕ → Bool) (i k e : ℕ) (r : Bool) → r ≡ all f (range (8 * i) (8 * (k - i))) → k ≡ e → r ≡ all f (range (8 * i) (8 * (e - i)))
-failed-end f i k e r h z = rw z at h
-
--- from the first word on
-pub failed-whole : (f : ℕ → Bool) (k e : ℕ) (r : Bool) → r ≡ all f (range (8 * 0) (8 * (k - 0))) → k ≡ e → r ≡ all f (range 0 (8 * e))
-failed-whole f k e r h z =
-    let d : 8 * (k - 0) ≡ 8 * e = omega arith in
-    rw d at h
+    rw d (high-clear w (a % 64) (omega arith) y ∙ range_same (λ j. not (bit_of w j)) (λ k. not (bit_set m k)) (a % 64) a (64 - a % 64) (λ i g. ap not (bit i (omega arith))))
+  where
+    bit : (i : ℕ) → a % 64 + i < 64 → bit_of w (a % 64 + i) ≡ bit_set m (a + i)
+    bit i g =
+        let e : 8 * (a / 64 * 8) + (a % 64 + i) ≡ a + i = omega arith in
+        rw e at (word-bit m (8 * (a / 64 * 8)) w (a % 64 + i) (rw (← byte-first (a / 64 * 8)) p) (omega arith) c g)

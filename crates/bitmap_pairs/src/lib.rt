@@ -5,6 +5,7 @@
 // that a word is read from for more parts of the same sum, and read them one by one.
 //
 // `difference` takes the bits of one map from another.
+// Kept: two slices at each call and no struct of them, as the callers have them as two lent buffers of the store.
 #![tactic(auto)]
 
 pub mod difference;
@@ -13,10 +14,10 @@ ghost use Rattle.std.specs.Prelude.{◌≡◌, not, ◌+◌, ◌-◌, ◌*◌, �
 ghost use Rattle.rules.specs.Lists.{all, range};
 ghost use Rattle.rules.specs.Bytes.{bit_set};
 ghost use Rattle.bitmap.specs.Map.{bit_of};
-ghost use Rattle.bitmap_pairs.specs.Pair.{only, inside, Holds, Fails};
+ghost use Rattle.bitmap_pairs.specs.Pair.{SameWords, only, inside, Holds};
 
 // A word with every bit set.
-const ONES: u64 = 0xffff_ffff_ffff_ffff;
+const ONES: u64 = u64::MAX;
 
 // Whether the `n` bits of a word from bit `s` on are set.
 fn bits_set(w: u64, s: usize, n: usize) -> bool
@@ -24,14 +25,6 @@ fn bits_set(w: u64, s: usize, n: usize) -> bool
     ensures { result ≡ all (bit_of w) (range s n) }
 {
     (w >> s) << (64 - n) == ONES << (64 - n)
-}
-
-// Whether the `n` bits of a word from bit `s` on are clear.
-fn bits_clear(w: u64, s: usize, n: usize) -> bool
-    requires { (0 < n) × (s + n ≤ 64) }
-    ensures { result ≡ all (λ j. not (bit_of w j)) (range s n) }
-{
-    (w >> s) << (64 - n) == 0
 }
 
 // The bits of the word at byte `i` that are set in `m` and clear in `x`.
@@ -42,18 +35,18 @@ fn only_word(m: &[u8], x: &[u8], i: usize) -> u64
     words::le64(m, i) & !words::le64(x, i)
 }
 
-// The bits of the word at byte `i` that are set in `x` and clear in `m`.
+// The bits of the word at byte `i` that are set in `x` and clear in `m`: the maps the other way round.
 fn not_inside(m: &[u8], x: &[u8], i: usize) -> u64
     requires { (i + 8 ≤ length m.now) × (i + 8 ≤ length x.now) }
-    ensures { Fails (inside m.now x.now) (8 * i) result }
+    ensures { Holds (λ k. not (inside m.now x.now k)) (8 * i) result }
 {
-    !words::le64(m, i) & words::le64(x, i)
+    only_word(x, m, i)
 }
 
 // Whether the `n` bits from `a` on, all of one word, are set in `m` and clear in `x`: the short way of `all_only`, for who asks of many short ranges.
 pub fn only_in_word(m: &[u8], x: &[u8], a: usize, n: usize) -> bool
     requires n_nonzero { (0 < n) × (a % 64 + n ≤ 64) }
-    requires n_bound { (a + n ≤ 8 * length m.now) × (length m.now % 8 ≡ 0) × (length x.now ≡ length m.now) }
+    requires n_bound { (a + n ≤ 8 * length m.now) × SameWords m.now x.now }
     ensures { result ≡ all (only m.now x.now) (range a n) }
 {
     bits_set(only_word(m, x, a / 64 * 8), a % 64, n)
@@ -65,17 +58,15 @@ fn only_in_words(m: &[u8], x: &[u8], i: usize, end: usize) -> bool
     ensures { result ≡ all (only m.now x.now) (range (8 * i) (8 * (end - i))) }
 {
     let mut passed = ONES;
-    let mut k = i;
-    while k < end {
-        passed = passed & only_word(m, x, k);
-        k += 8;
+    for k in 0..(end - i) / 8 {
+        passed &= only_word(m, x, i + 8 * k);
     }
     passed == ONES
 }
 
 // The same from `a` to `e`, which is past the end of `a`'s word: the rest of that word, whole words, and what is left.
 fn only_beyond(m: &[u8], x: &[u8], a: usize, e: usize) -> bool
-    requires { (a + (64 - a % 64) < e) × (e ≤ 8 * length m.now) × (length m.now % 8 ≡ 0) × (length x.now ≡ length m.now) }
+    requires { (a + (64 - a % 64) < e) × (e ≤ 8 * length m.now) × SameWords m.now x.now }
     ensures { result ≡ all (only m.now x.now) (range a (e - a)) }
 {
     let n = 64 - a % 64;
@@ -87,15 +78,12 @@ fn only_beyond(m: &[u8], x: &[u8], a: usize, e: usize) -> bool
     if !only_in_words(m, x, s / 8, t / 8) {
         return false;
     }
-    if t == e {
-        return true;
-    }
-    only_in_word(m, x, t, e - t)
+    t == e || only_in_word(m, x, t, e - t)
 }
 
 // Whether every bit from `a` to `e` is set in `m` and clear in `x`. Most ranges lie in one word.
 pub fn all_only(m: &[u8], x: &[u8], a: usize, e: usize) -> bool
-    requires { (a ≤ e) × (e ≤ 8 * length m.now) × (length m.now % 8 ≡ 0) × (length x.now ≡ length m.now) }
+    requires { (a ≤ e) × (e ≤ 8 * length m.now) × SameWords m.now x.now }
     ensures { result ≡ all (only m.now x.now) (range a (e - a)) }
 {
     if a == e {
@@ -109,15 +97,12 @@ pub fn all_only(m: &[u8], x: &[u8], a: usize, e: usize) -> bool
 
 // Whether every bit that is set in `x` is set in `m`.
 pub fn all_inside(m: &[u8], x: &[u8]) -> bool
-    requires { (length m.now % 8 ≡ 0) × (length x.now ≡ length m.now) }
+    requires { SameWords m.now x.now }
     ensures { result ≡ all (inside m.now x.now) (range 0 (8 * length m.now)) }
 {
-    let end = m.len();
     let mut failed: u64 = 0;
-    let mut k: usize = 0;
-    while k < end {
-        failed = failed | not_inside(m, x, k);
-        k += 8;
+    for k in 0..m.len() / 8 {
+        failed |= not_inside(m, x, 8 * k);
     }
     failed == 0
 }
@@ -128,8 +113,5 @@ pub fn clear_behind(m: &[u8], a: usize) -> bool
     ensures { result ≡ all (λ k. not (bit_set m.now k)) (range a (8 * length m.now - a)) }
 {
     let s = a % 64;
-    if s == 0 {
-        return true;
-    }
-    bits_clear(words::le64(m, a / 64 * 8), s, 64 - s)
+    s == 0 || words::le64(m, a / 64 * 8) >> s == 0
 }

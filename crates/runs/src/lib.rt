@@ -12,7 +12,7 @@ ghost use Rattle.std.specs.Prelude.{◌≡◌, ◌+◌, ◌*◌, ◌/◌, ◌%�
 ghost use Rattle.runs.specs.Runs.{Starts, PastSet, Half, Meets, AnyMeets, Passed, Lowest};
 
 // A word with every bit set.
-const ONES: u64 = 0xffff_ffff_ffff_ffff;
+const ONES: u64 = u64::MAX;
 
 // Words are read so many bits apart.
 const APART: usize = 48;

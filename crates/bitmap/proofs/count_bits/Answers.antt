@@ -1,17 +1,14 @@
-use Rattle.bitmap.proofs.MapLaws.{count_none, count-bit}
-use Rattle.bitmap.proofs.BitLaws.{one-most}
-use native.Mathlib.Omega.{arith}
-use mathlib.Core.Path.{◌≡◌}
+-- `bitmap::count_bits` meets its contract.
+-- Assumes nothing.
+use Rattle.std.proofs.Common.{rules, tests, refl}
+use Rattle.std.proofs.lemmas.Iterator.{YieldsList-from_range}
+use Rattle.std.proofs.lemmas.Iterator.Consumers.{count_from_yields_List, YieldsList-from_filter, YieldsList-at}
+use Rattle.rules.specs.Bytes.{bit_set}
+use Rattle.bitmap.proofs.MapLaws.{count_bits}
 use Rattle.bitmap.proofs.count_bits.Goals as goal
 
-pub loop-n-init : goal.loop-n-init
-loop-n-init c = (omega arith, omega arith, omega arith, count_none _ _)
-
-pub overflow_add-total : goal.overflow_add-total
-overflow_add-total c = omega (arith, one-most _ _ c.one_if-total.ensures)
-
-pub loop-n-preserved : goal.loop-n-preserved
-loop-n-preserved c = (omega arith, omega arith, omega (arith, one-most _ _ c.one_if-total.ensures), count-bit _ _ _ _ _ _ c.loop-n.invariant.3 c.get.ensures c.one_if-total.ensures (omega arith))
-
 pub returns : goal.returns
-returns c = let q : c.loop-n.n ≡ c.args.e = omega arith in rw q at c.loop-n.invariant.3
+returns c =
+    count_bits (bit_set c.args.m.now) _ _ _
+    (count_from_yields_List _ _ c.count.ensures.ran
+    (YieldsList-from_filter _ (bit_set c.args.m.now) (YieldsList-at c.filter.ensures.source (YieldsList-from_range _ _ _ refl refl)) c.filter.ensures.closure (λ x r q k. search (rules, tests))))

@@ -5,4 +5,4 @@ use native.Mathlib.Omega.{arith}
 use Rattle.bitmap.proofs.fill.Goals as goal
 
 pub returns : goal.returns
-returns c = fill-three _ _ _ _ _ _ _ _ _ c.fill_bits-2.ensures c.fill_words.ensures c.fill_bits-3.ensures (omega arith) (omega arith) (omega arith)
+returns c = fill-three _ _ _ _ _ _ _ _ _ c.fill_bits-2.ensures c.fill_bytes.ensures c.fill_bits-3.ensures (omega arith) (omega arith) (omega arith)

@@ -1,15 +1,12 @@
-use Rattle.bitmap.proofs.MapLaws.{next-yet, bit_found, bit-passed, next-end}
-use native.Mathlib.Omega.{arith}
+-- `bitmap::next_bits` meets its contract.
+-- Assumes nothing.
+use Rattle.std.proofs.Common.{rules, tests, ◌≡◌, not, arith}
+use Rattle.std.proofs.lemmas.Iterator.{first_from_Range}
+use Rattle.rules.specs.Bytes.{bit_set}
+use Rattle.bitmap.proofs.MapLaws.{next_found}
 use Rattle.bitmap.proofs.next_bits.Goals as goal
 
-pub loop-n-init : goal.loop-n-init
-loop-n-init c = (omega arith, omega arith, next-yet _ _ _)
-
-pub returns-then-get-value : goal.returns-then-get-value
-returns-then-get-value c = bit_found _ _ _ _ _ _ c.loop-n.invariant.2 c.get.ensures c.if-get-value.true (omega arith)
-
-pub loop-n-preserved : goal.loop-n-preserved
-loop-n-preserved c = (omega arith, omega arith, bit-passed _ _ _ _ _ c.loop-n.invariant.2 c.get.ensures c.if-get-value.false)
-
 pub returns : goal.returns
-returns c = next-end _ _ _ _ _ c.loop-n.invariant.2 (omega arith)
+returns c =
+    next_found _ _ _ _ _ (omega arith)
+    (first_from_Range _ _ _ _ (λ k. bit_set c.args.m.now k ≡ c.args.value) (λ k. bit_set c.args.m.now k ≡ not c.args.value) c.find.ensures.ran (λ x q k. search (rules, tests)) (λ x q k. search (rules, tests)))

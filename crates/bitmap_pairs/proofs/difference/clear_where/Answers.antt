@@ -1,13 +1,9 @@
-use Rattle.bitmap_pairs.proofs.DifferenceLaws.{clearing-yet, clearing-more, clearing-all}
-use native.Mathlib.Omega.{arith}
-use borrow.Author.Rules.{rules}
+use Rattle.std.proofs.Common.{arith}
+use Rattle.bitmap_pairs.proofs.DifferenceLaws.{clearing-more, clearing-all}
 use Rattle.bitmap_pairs.proofs.difference.clear_where.Goals as goal
 
-pub loop-i-init : goal.loop-i-init
-loop-i-init c = clearing-yet _ _ (omega arith) (search rules)
-
 pub loop-i-preserved : goal.loop-i-preserved
-loop-i-preserved c = clearing-more _ _ _ _ _ c.loop-i.invariant (search rules) (omega arith) (omega arith) c.clear_word.ensures
+loop-i-preserved c = clearing-more _ _ _ _ c.loop-i.invariant (omega arith) (c.type_inv.x _).fits
 
 pub returns : goal.returns
 returns c = clearing-all _ _ _ _ c.loop-i.invariant (omega arith)
