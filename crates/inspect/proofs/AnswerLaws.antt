@@ -22,13 +22,16 @@ use Rattle.rules.specs.Inspect.Inspected.{damaged, hole, checked}
 use Rattle.rules.specs.Read as read
 use Rattle.rules.specs.Read.{follow, then_units}
 use Rattle.rules.specs.Read.Checked.{failed, bytes}
-use Rattle.rules.proofs.Refused.{numbered}
 use Rattle.mapping.specs.Entries.{entry_of, entries, Inside}
 use Rattle.inspect.specs.declared.Inspected.{Inspected}
-use Rattle.inspect.specs.declared.Inspected.TheVariants.{Damaged, Hole, Checked}
+use Rattle.inspect.specs.declared.Inspected.TheVariants.{Hole, Checked}
+use Rattle.std.proofs.Common.{Result, Ok, Err}
+use Rattle.format.specs.Refusals.{refusal_of}
+use Rattle.format.specs.declared.refusal.Refusal.{Refusal}
+use Rattle.format.specs.declared.refusal.Refusal.TheVariants.{NoChecksum, NotBacked, NonzeroPastEnd, ChecksumDiffers}
 use Rattle.inspect.specs.Mapped.{valid_blocks, valid_of, slot_mapped, inspect_mapped, check_mapped}
 use Rattle.rules.specs.Answers.{checked_number}
-use Rattle.inspect.specs.Answer.{answer_of, refused_by, unit_number, number_from}
+use Rattle.inspect.specs.Answer.{Answers, unit_found, number_from}
 use Rattle.inspect.specs.Runs.{backed_bytes}
 use Rattle.inspect.proofs.BlockLaws.{take-map, drop-map}
 
@@ -50,66 +53,56 @@ valid-most size unit valid e l = (omega arith, omega arith)
 
 module _ (image uuid : List ℕ) (object size unit : ℕ) (blocks : List ℕ) (crc valid n : ℕ) where
   -- the answer where the length and the number of blocks are those
-  abbrev Answer : Inspected → Type 0
-  Answer r = valid ≡ valid_length size unit → n ≡ begun valid block_bytes → r ≡ answer_of (slot_mapped image uuid object size unit (entries blocks) crc)
+  abbrev Answer : Result Inspected Refusal → Type 0
+  Answer r = valid ≡ valid_length size unit → n ≡ begun valid block_bytes → Answers r (slot_mapped image uuid object size unit (entries blocks) crc)
 
   -- refusal 10
-  pub slot-unbacked : (b : Bool) → b ≡ all given (take n (entries blocks)) → not b ≡ true → Answer (Damaged 10)
-  unfolding answer_of slot_mapped valid_blocks pick◌then◌else◌ number_of
+  pub slot-unbacked : (b : Bool) → b ≡ all given (take n (entries blocks)) → not b ≡ true → Answer (Err NotBacked)
+  unfolding slot_mapped valid_blocks pick◌then◌else◌ refusal_of
   slot-unbacked b p q e m = rw (← e, ← m, ← p, q) refl
 
   -- refusal 11
-  pub slot-nonzero : (b z : Bool) → b ≡ all given (take n (entries blocks)) → not b ≡ false → z ≡ all_zero (drop valid (backed_bytes image blocks n)) → not z ≡ true → Answer (Damaged 11)
-  unfolding answer_of slot_mapped valid_blocks backed_bytes pick◌then◌else◌ number_of
+  pub slot-nonzero : (b z : Bool) → b ≡ all given (take n (entries blocks)) → not b ≡ false → z ≡ all_zero (drop valid (backed_bytes image blocks n)) → not z ≡ true → Answer (Err NonzeroPastEnd)
+  unfolding slot_mapped valid_blocks backed_bytes pick◌then◌else◌ refusal_of
   slot-nonzero b z p q r s e m = rw (← e, ← m, ← p, q, ← r, s) refl
 
   -- refusal 12
   pub slot-differs : (b z : Bool) (x : ℕ) → b ≡ all given (take n (entries blocks)) → not b ≡ false → z ≡ all_zero (drop valid (backed_bytes image blocks n)) → not z ≡ false
-      → x ≡ unit_checksum uuid object unit (take valid (backed_bytes image blocks n)) → (x ≡ crc → ⊥) → Answer (Damaged 12)
-  unfolding answer_of slot_mapped valid_of valid_blocks backed_bytes pick◌then◌else◌ number_of
+      → x ≡ unit_checksum uuid object unit (take valid (backed_bytes image blocks n)) → (x ≡ crc → ⊥) → Answer (Err ChecksumDiffers)
+  unfolding slot_mapped valid_of valid_blocks backed_bytes pick◌then◌else◌ refusal_of
   slot-differs b z x p q r s u d e m = rw (← e, ← m, ← p, q, ← r, s, ← u, ne_eqb crc x (λ k. d (sym k))) refl
 
   -- none of them
   pub slot-right : (b z : Bool) (x : ℕ) → b ≡ all given (take n (entries blocks)) → not b ≡ false → z ≡ all_zero (drop valid (backed_bytes image blocks n)) → not z ≡ false
-      → x ≡ unit_checksum uuid object unit (take valid (backed_bytes image blocks n)) → x ≡ crc → Answer Checked
-  unfolding answer_of slot_mapped valid_of valid_blocks backed_bytes pick◌then◌else◌ number_of
-  slot-right b z x p q r s u d e m = rw (← e, ← m, ← p, q, ← r, s, ← u, eq-eqb crc x (sym d)) refl
+      → x ≡ unit_checksum uuid object unit (take valid (backed_bytes image blocks n)) → x ≡ crc → Answer (Ok Checked)
+  unfolding slot_mapped valid_of valid_blocks backed_bytes pick◌then◌else◌
+  slot-right b z x p q r s u d e m = (take valid (backed_bytes image blocks n), rw (← e, ← m, ← p, q, ← r, s, ← u, eq-eqb crc x (sym d)) refl)
 
 -- ---- a unit, by its slot
 
 module _ (image uuid : List ℕ) (object size unit : ℕ) (blocks : List ℕ) (slot : ℕ) where
+  -- the answer
+  abbrev UnitAnswer : Result Inspected Refusal → Type 0
+  UnitAnswer r = Answers r (inspect_mapped image uuid object size unit (entries blocks) (entry_of slot))
+
   -- refusal 9
-  pub unit-unslotted : (b : Bool) → slot ≡ 0 → b ≡ any given (entries blocks) → b ≡ true → Damaged 9 ≡ answer_of (inspect_mapped image uuid object size unit (entries blocks) (entry_of slot))
-  unfolding answer_of inspect_mapped entry_of maybe pick◌then◌else◌ number_of
+  pub unit-unslotted : (b : Bool) → slot ≡ 0 → b ≡ any given (entries blocks) → b ≡ true → UnitAnswer (Err NoChecksum)
+  unfolding inspect_mapped entry_of maybe pick◌then◌else◌ refusal_of
   unit-unslotted b z p q = rw (z, ← p, q) refl
 
   -- a hole
-  pub unit-hole : (b : Bool) → slot ≡ 0 → b ≡ any given (entries blocks) → b ≡ false → Hole ≡ answer_of (inspect_mapped image uuid object size unit (entries blocks) (entry_of slot))
-  unfolding answer_of inspect_mapped entry_of maybe pick◌then◌else◌
+  pub unit-hole : (b : Bool) → slot ≡ 0 → b ≡ any given (entries blocks) → b ≡ false → UnitAnswer (Ok Hole)
+  unfolding inspect_mapped entry_of maybe pick◌then◌else◌
   unit-hole b z p q = rw (z, ← p, q) refl
 
   -- a unit with a slot
-  pub unit-slotted : (r : Inspected) (crc : ℕ) → crc ≡ slot - 1 → (slot ≡ 0 → ⊥) → r ≡ answer_of (slot_mapped image uuid object size unit (entries blocks) crc)
-      → r ≡ answer_of (inspect_mapped image uuid object size unit (entries blocks) (entry_of slot))
+  pub unit-slotted : (r : Result Inspected Refusal) (crc : ℕ) → crc ≡ slot - 1 → (slot ≡ 0 → ⊥) → Answers r (slot_mapped image uuid object size unit (entries blocks) crc) → UnitAnswer r
   unfolding inspect_mapped entry_of maybe
   unit-slotted r crc e d p =
       let s : slot ≡ suc crc = omega (arith, d) in
       rw s p
 
 -- ---- units one after another
-
--- the number in an answer, by its cases
-pub refused-damaged : (answer : Inspected) (n : ℕ) → answer ≡ Damaged n → n ≡ refused_by answer
-unfolding refused_by
-refused-damaged answer n e = rw e refl
-
-pub refused-hole : (answer : Inspected) → answer ≡ Hole → 0 ≡ refused_by answer
-unfolding refused_by
-refused-hole answer e = rw e refl
-
-pub refused-checked : (answer : Inspected) → answer ≡ Checked → 0 ≡ refused_by answer
-unfolding refused_by
-refused-checked answer e = rw e refl
 
 -- bytes in front change no number
 follow-number : (xs : List ℕ) (rest : read.Checked) → checked_number (follow xs rest) ≡ checked_number rest
@@ -118,17 +111,14 @@ follow-number xs (failed r) = refl
 follow-number xs (bytes ys) = refl
 
 -- a unit that is not refused, and one that is
-then-none : (valid : ℕ) (x : rules.Inspected) (rest : read.Checked) → refused_by (answer_of x) ≡ 0 → checked_number (then_units valid x rest) ≡ checked_number rest
-unfolding refused_by answer_of then_units
-then-none valid (damaged r) rest e = absurd (omega (arith, (numbered r).least))
-then-none valid hole rest e = follow-number (replicate valid 0) rest
-then-none valid (checked xs) rest e = follow-number xs rest
+then-none : (valid : ℕ) (x : rules.Inspected) (rest : read.Checked) (a : Inspected) → Answers (Ok a) x → checked_number (then_units valid x rest) ≡ checked_number rest
+unfolding then_units
+then-none valid x rest Hole e = rw e (follow-number (replicate valid 0) rest)
+then-none valid x rest Checked e = rw e.1 (follow-number e.0 rest)
 
-then_some : (valid : ℕ) (x : rules.Inspected) (rest : read.Checked) → (refused_by (answer_of x) ≡ 0 → ⊥) → refused_by (answer_of x) ≡ checked_number (then_units valid x rest)
-unfolding refused_by answer_of then_units checked_number
-then_some valid (damaged r) rest d = refl
-then_some valid hole rest d = absurd (d refl)
-then_some valid (checked xs) rest d = absurd (d refl)
+then_some : (valid : ℕ) (x : rules.Inspected) (rest : read.Checked) (r : Refusal) → Answers (Err r) x → number_of (refusal_of r) ≡ checked_number (then_units valid x rest)
+unfolding then_units checked_number
+then_some valid x rest r e = rw e refl
 
 module _ (image uuid : List ℕ) (object size first : ℕ) (slots blocks : List ℕ) where
   -- the slots from the k-th on
@@ -141,7 +131,7 @@ module _ (image uuid : List ℕ) (object size first : ℕ) (slots blocks : List 
   -- the k-th unit and those behind it
   units-from : (k : ℕ) → k < length slots
       → number_from image uuid object size first slots blocks k
-      ≡ checked_number (then_units (valid_length size (first + k)) (inspect_mapped image uuid object size (first + k) (take unit_blocks (drop (unit_blocks * k) (entries blocks))) (entry_of (get_or slots k 0)))
+      ≡ checked_number (then_units (valid_length size (first + k)) (unit_found image uuid object size first slots blocks k)
       (check_mapped image uuid object size (first + suc k) (drop (suc k) (entries slots)) (drop (unit_blocks * suc k) (entries blocks))))
   unfolding number_from check_mapped
   units-from k l =
@@ -154,38 +144,35 @@ module _ (image uuid : List ℕ) (object size first : ℕ) (slots blocks : List 
   unfolding number_from
   number-begun = rw (add-zero first) refl
 
+  -- the answer for the k-th, whose slot and sixteen entries the code has at hand
+  abbrev UnitAnswerAt : ℕ → ℕ → Result Inspected Refusal → Type 0
+  UnitAnswerAt k slot r = Answers r (inspect_mapped image uuid object size (first + k) (entries (take (unit_blocks * k + unit_blocks - unit_blocks * k) (drop (unit_blocks * k) blocks))) (entry_of slot))
+
+  -- they are those of the rules
+  answer_at : (k : ℕ) (r : Result Inspected Refusal) → UnitAnswerAt k (get_or slots k 0) r → Answers r (unit_found image uuid object size first slots blocks k)
+  unfolding entries
+  answer_at k r q =
+      let a : unit_blocks * k + unit_blocks - unit_blocks * k ≡ unit_blocks = omega arith in
+      rw (drop-map entry_of (unit_blocks * k) blocks, take-map entry_of unit_blocks (drop (unit_blocks * k) blocks)) (rw a at q)
+
   -- one more that is not refused
-  pub number_more : (k total r : ℕ) → k < length slots → total ≡ number_from image uuid object size first slots blocks k → r ≡ unit_number image uuid object size first slots blocks k → r ≡ 0
+  pub number_more : (k total : ℕ) (a : Inspected) → k < length slots → total ≡ number_from image uuid object size first slots blocks k → UnitAnswerAt k (get_or slots k 0) (Ok a)
       → total ≡ number_from image uuid object size first slots blocks (k + 1)
-  unfolding unit_number number_from
-  number_more k total r l e q z =
-      let a : k + 1 ≡ suc k = omega arith in
-      e ∙ units-from k l ∙ rw a (then-none (valid_length size (first + k)) _ _ (sym q ∙ z))
+  unfolding number_from
+  number_more k total a l e q =
+      let s : k + 1 ≡ suc k = omega arith in
+      e ∙ units-from k l ∙ rw s (then-none (valid_length size (first + k)) _ _ a (answer_at k (Ok a) q))
 
   -- one that is
-  pub number-refused : (k total r : ℕ) → k < length slots → total ≡ number_from image uuid object size first slots blocks k → r ≡ unit_number image uuid object size first slots blocks k → (r ≡ 0 → ⊥)
-      → r ≡ total
-  unfolding unit_number
-  number-refused k total r l e q d =
-      q ∙ then_some (valid_length size (first + k)) _ _ (λ z. d (q ∙ z)) ∙ sym (e ∙ units-from k l)
+  pub number-refused : (k total : ℕ) (r : Refusal) → k < length slots → total ≡ number_from image uuid object size first slots blocks k → UnitAnswerAt k (get_or slots k 0) (Err r)
+      → number_of (refusal_of r) ≡ total
+  number-refused k total r l e q =
+      then_some (valid_length size (first + k)) _ _ r (answer_at k (Err r) q) ∙ sym (e ∙ units-from k l)
 
   -- behind the last
   pub number-done : (k total : ℕ) → length slots ≤ k → total ≡ number_from image uuid object size first slots blocks k → 0 ≡ total
   unfolding number_from check_mapped checked_number entries
   number-done k total l e = sym (e ∙ rw (drop_of_length-le (map entry_of slots) {i = k} (simp length-map l)) refl)
-
-  -- the sixteen entries of the k-th
-  pub number_at : (k r : ℕ) (answer : Inspected) → r ≡ refused_by answer
-      → answer ≡ answer_of (inspect_mapped image uuid object size (first + k) (entries (take (unit_blocks * k + unit_blocks - unit_blocks * k) (drop (unit_blocks * k) blocks))) (entry_of (get_or slots k 0)))
-      → r ≡ unit_number image uuid object size first slots blocks k
-  unfolding unit_number entries
-  number_at k r answer p q =
-      let a : unit_blocks * k + unit_blocks - unit_blocks * k ≡ unit_blocks = omega arith in
-      let b : take unit_blocks (drop (unit_blocks * k) (map entry_of blocks)) ≡ map entry_of (take unit_blocks (drop (unit_blocks * k) blocks)) =
-      ap (take unit_blocks) (drop-map entry_of (unit_blocks * k) blocks) ∙ take-map entry_of unit_blocks (drop (unit_blocks * k) blocks) in
-      let c : map entry_of (take (unit_blocks * k + unit_blocks - unit_blocks * k) (drop (unit_blocks * k) blocks)) ≡ take unit_blocks (drop (unit_blocks * k) (map entry_of blocks)) =
-      ap (λ (n : ℕ). map entry_of (take n (drop (unit_blocks * k) blocks))) a ∙ sym b in
-      p ∙ ap refused_by (q ∙ ap (λ (m : List (Option ℕ)). answer_of (inspect_mapped image uuid object size (first + k) m (entry_of (get_or slots k 0)))) c)
 
 -- they are sixteen
 pub sixteen : (blocks : List ℕ) (slots k : ℕ) → length blocks ≡ unit_blocks * slots → k < slots → length (take (unit_blocks * k + unit_blocks - unit_blocks * k) (drop (unit_blocks * k) blocks)) ≡ unit_blocks

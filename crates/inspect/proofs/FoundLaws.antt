@@ -26,9 +26,8 @@ use Rattle.history.proofs.UnitLaws.{valid-blocks}
 use Rattle.mapping.specs.Entries.{entry_of, entries, Inside}
 use Rattle.inspect.specs.Mapped.{bytes_at, valid_blocks, valid_of, inspect_mapped, check_mapped}
 use Rattle.rules.specs.Answers.{checked_number}
-use Rattle.inspect.specs.Answer.{answer_of}
 use Rattle.inspect.proofs.BlockLaws.{length-block}
-use Rattle.inspect.proofs.InspectLaws.{answer-checked, answer-hole}
+use Rattle.inspect.proofs.InspectLaws.{checked-backed, hole-unmapped}
 
 -- zeros behind zeros
 zeros-add : (n m k : ℕ) → n + m ≡ k → replicate {A = ℕ} n 0 ++ replicate m 0 ≡ replicate k 0
@@ -39,16 +38,6 @@ zeros-take : (n m : ℕ) → n ≤ m → take n (replicate {A = ℕ} m 0) ≡ re
 zeros-take n m l =
     let e : n + (m - n) ≡ m = omega arith in
     ap (take n) (sym (zeros-add n (m - n) m e)) ∙ take_at (replicate {A = ℕ} n 0) (replicate (m - n) 0) n (length-replicate {A = ℕ} n 0)
-
--- checked units with the same bytes
-inspected_bytes : rules.Inspected → List ℕ
-inspected_bytes (damaged r) = []
-inspected_bytes hole = []
-inspected_bytes (checked xs) = xs
-
-inspected-bytes : (xs ys : List ℕ) → ◌≡◌ {A = rules.Inspected} (checked xs) (checked ys) → xs ≡ ys
-unfolding inspected_bytes
-inspected-bytes xs ys e = ap inspected_bytes e
 
 -- units one after another of which one was refused gave no bytes
 failed-none : (r : Refusal) (xs : List ℕ) → failed r ≡ bytes xs → ⊥
@@ -140,21 +129,20 @@ module _ (image : List ℕ) where
   module _ (uuid : List ℕ) (object size unit : ℕ) (mapped : List (Option ℕ)) (slot : Option ℕ) (most : length mapped ≡ unit_blocks) (whole : Whole mapped) where
     -- a hole's zeros
     hole-found : inspect_mapped image uuid object size unit mapped slot ≡ hole → replicate (valid_length size unit) 0 ≡ take (valid_length size unit) (blocks_found mapped)
-    unfolding answer_of valid_length
+    unfolding valid_length
     hole-found e =
-        let h = answer-hole image uuid object size unit mapped slot (ap answer_of e) in
-        sym (rw (found_none mapped h.unmapped, most) (zeros-take (valid_length size unit) (unit_blocks * block_bytes) (omega arith)))
+        sym (rw (found_none mapped (hole-unmapped image uuid object size unit mapped slot e), most) (zeros-take (valid_length size unit) (unit_blocks * block_bytes) (omega arith)))
 
     -- the bytes of a unit that is checked
     checked-found : (xs : List ℕ) → inspect_mapped image uuid object size unit mapped slot ≡ checked xs → xs ≡ take (valid_length size unit) (blocks_found mapped)
-    unfolding answer_of valid_of valid_blocks
+    unfolding valid_of valid_blocks
     checked-found xs e =
-        let h = answer-checked image uuid object size unit mapped slot (ap answer_of e) in
+        let h = checked-backed image uuid object size unit mapped slot xs e in
         let n : ℕ = begun (valid_length size unit) block_bytes in
         let l : length (blocks_found (take n mapped)) ≡ n * block_bytes =
         length_found (take n mapped) (whole_take n mapped whole) ∙ ap (λ (k : ℕ). k * block_bytes) (length-take-le n mapped (omega (arith, valid-blocks size unit))) in
-        inspected-bytes xs (valid_of image uuid object size unit mapped) (sym e ∙ h.found)
-        ∙ ap (take (valid_length size unit)) (found-given (take n mapped) h.backed)
+        h.1
+        ∙ ap (take (valid_length size unit)) (found-given (take n mapped) h.0)
         ∙ sym (ap (take (valid_length size unit)) (found-split n mapped) ∙ take-append-le (valid_length size unit) (blocks_found (take n mapped)) (blocks_found (drop n mapped)) (omega arith))
 
   -- ---- units one after another

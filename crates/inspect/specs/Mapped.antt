@@ -1,7 +1,7 @@
 -- Refusals 9 to 12 of a unit whose slot and blocks have been looked up: the rules' `inspect_unit` with the books put aside.
 -- Assumes nothing.
 use mathlib.Core.List.{List, [], ◌∷◌, flat_map}
-use Rattle.std.specs.Prelude.{Bool, not, ℕ, suc, eqb, take, drop}
+use Rattle.std.specs.Prelude.{not, ℕ, suc, eqb, take, drop}
 use Rattle.std.proofs.Math.Option.{Option}
 use Rattle.rules.specs.Lists.{pick◌then◌else◌, maybe, given, all, any, begun}
 use Rattle.rules.specs.Sizes.{block_bytes, unit_blocks}

@@ -15,13 +15,16 @@ ghost use Rattle.crc32c.specs.Unit.{UnitFed};
 ghost use Rattle.mapping.specs.Entries.{entry_of, entries, Inside};
 ghost use Rattle.inspect.specs.Mapped.{slot_mapped, inspect_mapped, check_mapped};
 ghost use Rattle.rules.specs.Answers.{checked_number};
-ghost use Rattle.inspect.specs.Answer.{answer_of, refused_by, unit_number};
+ghost use Rattle.format.specs.Refusals.{number_in};
+ghost use Rattle.inspect.specs.Answer.{Answers};
 ghost use Rattle.inspect.specs.Runs.{Backed, Run, backed_bytes, bytes_before};
 
-// What a unit that is read is: damaged, by the number of the refusal; a hole; or checked, its bytes right where they stand.
+use format::refusal::Refusal;
+use format::sizes::UNIT_BLOCKS;
+
+// What a unit that is read is, where it is not refused: a hole; or checked, its bytes right where they stand.
 #[derive(Clone, Copy)]
 pub enum Inspected {
-    Damaged(u32),
     Hole,
     Checked,
 }
@@ -205,26 +208,26 @@ fn slot_checked(
     unit: u64,
     crc: u32,
     blocks: &[u32],
-) -> Inspected
+) -> Result<Inspected, Refusal>
     requires tables { Tables t.now }
     requires w_len { length w.old ≡ 4624 }
     requires blocks_len { length blocks.now ≡ unit_blocks }
     requires inside { Inside image.now blocks.now }
     requires unit_bytes_bound { unit * unit_bytes < size }
-    ensures { result ≡ answer_of (slot_mapped image.now uuid.now object size unit (entries blocks.now) crc) }
+    ensures { Answers result (slot_mapped image.now uuid.now object size unit (entries blocks.now) crc) }
 {
     let valid = valid_length(size, unit);
     let n = (valid + 4095) / 4096;
     if !all_mapped(blocks, n) {
-        return Inspected::Damaged(10);
+        return Err(Refusal::NotBacked);
     }
     if !zero_past(image, blocks, n, valid) {
-        return Inspected::Damaged(11);
+        return Err(Refusal::NonzeroPastEnd);
     }
     if blocks_checksum(t, w, image, uuid, object, unit, blocks, n, valid) != crc {
-        return Inspected::Damaged(12);
+        return Err(Refusal::ChecksumDiffers);
     }
-    Inspected::Checked
+    Ok(Inspected::Checked)
 }
 
 // The unit, read: with `slot` 0 it has no checksum and is a hole, after refusal 9; else its checksum is one less.
@@ -238,20 +241,20 @@ pub fn inspect_unit(
     unit: u64,
     slot: u64,
     blocks: &[u32],
-) -> Inspected
+) -> Result<Inspected, Refusal>
     requires tables { Tables t.now }
     requires w_len { length w.old ≡ 4624 }
     requires blocks_len { length blocks.now ≡ unit_blocks }
     requires inside { Inside image.now blocks.now }
     requires unit_bytes_bound { unit * unit_bytes < size }
     requires slot_bound { slot ≤ 2 ^ 32 }
-    ensures { result ≡ answer_of (inspect_mapped image.now uuid.now object size unit (entries blocks.now) (entry_of slot)) }
+    ensures { Answers result (inspect_mapped image.now uuid.now object size unit (entries blocks.now) (entry_of slot)) }
 {
     if slot == 0 {
         if any_mapped(blocks) {
-            return Inspected::Damaged(9);
+            return Err(Refusal::NoChecksum);
         }
-        return Inspected::Hole;
+        return Ok(Inspected::Hole);
     }
     slot_checked(
         t,
@@ -266,53 +269,7 @@ pub fn inspect_unit(
     )
 }
 
-// The number of the refusal in an answer, 0 where there is none.
-fn refused_by(answer: Inspected) -> u32
-    ensures { result ≡ refused_by answer }
-{
-    match answer {
-        Inspected::Damaged(n) => n,
-        Inspected::Hole => 0,
-        Inspected::Checked => 0,
-    }
-}
-
-// The same for unit `k` of those from `first` on.
-fn refused_at(
-    t: &[u32; 4096],
-    w: &mut [u8],
-    image: &[u8],
-    uuid: &[u8],
-    object: u64,
-    size: u64,
-    first: u64,
-    slots: &[u64],
-    blocks: &[u32],
-    k: usize,
-) -> u32
-    requires tables { Tables t.now }
-    requires w_len { length w.old ≡ 4624 }
-    requires blocks_len { length blocks.now ≡ unit_blocks * length slots.now }
-    requires inside { Inside image.now blocks.now }
-    requires k_in_bounds { (k < length slots.now) × ((first + k) * unit_bytes < size) × (get_or slots.now k 0 ≤ 2 ^ 32) }
-    ensures { result ≡ unit_number image.now uuid.now object size first slots.now blocks.now k }
-{
-    let start = 16 * k;
-    let end = start + 16;
-    refused_by(inspect_unit(
-        t,
-        w,
-        image,
-        uuid,
-        object,
-        size,
-        first + k as u64,
-        slots[k],
-        &blocks[start..end],
-    ))
-}
-
-// Units one after another from `first` on, each with its slot and its sixteen blocks: the number of the first refusal, or 0.
+// Units one after another from `first` on, each with its slot and its sixteen blocks: the first refusal, if there is one.
 pub fn check_units(
     t: &[u32; 4096],
     w: &mut [u8],
@@ -323,21 +280,28 @@ pub fn check_units(
     first: u64,
     slots: &[u64],
     blocks: &[u32],
-) -> u32
+) -> Result<(), Refusal>
     requires tables { Tables t.now }
     requires w_len { length w.old ≡ 4624 }
     requires blocks_len { length blocks.now ≡ unit_blocks * length slots.now }
     requires inside { Inside image.now blocks.now }
     requires by_index { (k : ℕ) → k < length slots.now → ((first + k) * unit_bytes < size) × (get_or slots.now k 0 ≤ 2 ^ 32) }
-    ensures { result ≡ checked_number (check_mapped image.now uuid.now object size first (entries slots.now) (entries blocks.now)) }
+    ensures { number_in result ≡ checked_number (check_mapped image.now uuid.now object size first (entries slots.now) (entries blocks.now)) }
 {
-    let mut k: usize = 0;
-    while k < slots.len() {
-        let r = refused_at(t, w, image, uuid, object, size, first, slots, blocks, k);
-        if r != 0 {
-            return r;
-        }
-        k += 1;
+    for (k, slot) in slots.iter().enumerate() {
+        let start = UNIT_BLOCKS * k;
+        let own = &blocks[start..start + UNIT_BLOCKS];
+        inspect_unit(
+            t,
+            w,
+            image,
+            uuid,
+            object,
+            size,
+            first + k as u64,
+            *slot,
+            own,
+        )?;
     }
-    0
+    Ok(())
 }

@@ -13,11 +13,13 @@ ghost use Rattle.rules.specs.Read.{read_length};
 ghost use Rattle.crc32c_tables.specs.Register.{Tables};
 ghost use Rattle.mapping.specs.Entries.{entries, Inside, extents_in, slot_of};
 ghost use Rattle.rules.specs.Answers.{checked_number};
+ghost use Rattle.format.specs.Refusals.{number_in, count_in};
 ghost use Rattle.inspect.specs.Mapped.{check_mapped};
 ghost use Rattle.read.specs.Range.{Readable, checked_range};
 ghost use Rattle.read.specs.Gives.{gives, gives_checked, checked_units, gives_sized, gives_read, ReadReady};
 
 use format::card::CARD_BYTES;
+use format::refusal::Refusal;
 use format::sizes::{UNIT_BLOCKS, UNIT_BYTES};
 
 // Bytes that a read gets at most.
@@ -29,32 +31,12 @@ const MOST_UNITS: usize = 17;
 // Blocks of so many units.
 const MOST_BLOCKS: usize = MOST_UNITS * UNIT_BLOCKS;
 
-// A read's answer: 0 and a count, or the number of its refusal and 0.
-#[derive(Clone, Copy)]
-pub struct Given {
-    pub number: u32,
-    pub count: usize,
-}
-
-// The smaller of two numbers.
-fn least(a: u64, b: u64) -> u64
-    ensures { result ≡ min a b }
-{
-    if a < b {
-        return a;
-    }
-    b
-}
-
 // How many bytes a read gets of a file of this size.
 pub fn read_length(size: u64, offset: u64, room: usize) -> usize
     ensures { result ≡ read_length size offset room }
 {
-    if size <= offset {
-        return 0;
-    }
-    let wanted = least(size - offset, room as u64);
-    least(wanted, MOST_TRANSFER) as usize
+    let left = size.saturating_sub(offset);
+    left.min(room as u64).min(MOST_TRANSFER) as usize
 }
 
 // How many units the `n` bytes from `offset` on touch.
@@ -78,14 +60,14 @@ fn check_slots(
     size: u64,
     first: u64,
     blocks: &[u32],
-) -> u32
+) -> Result<(), Refusal>
     requires tables { Tables t.now }
     requires w_len { length w.old ≡ 4624 }
     requires g_in_bounds { group_bytes * g ≤ length groups.now }
     requires inside { Inside image.now blocks.now }
     requires blocks_len { length blocks.now ≡ unit_blocks * length slots.old }
     requires unit_bytes_bound { (first + length slots.old) * unit_bytes < size + unit_bytes }
-    ensures { result ≡ checked_number (check_mapped image.now uuid.now object size first (map (slot_of (decode_book decode_group group_bytes g groups.now) object) (range first (length slots.old))) (entries blocks.now)) }
+    ensures { number_in result ≡ checked_number (check_mapped image.now uuid.now object size first (map (slot_of (decode_book decode_group group_bytes g groups.now) object) (range first (length slots.old))) (entries blocks.now)) }
 {
     mapping::slots::unit_slots(groups, g, object, first, slots);
     inspect::check_units(t, w, image, uuid, object, size, first, slots, blocks)
@@ -106,13 +88,13 @@ pub fn check_range(
     first: u64,
     k: usize,
     blocks: &mut [u32],
-) -> u32
+) -> Result<(), Refusal>
     requires tables { Tables t.now }
     requires w_len { length w.old ≡ 4624 }
     requires readable { Readable image.now extents.now groups.now e g }
     requires blocks_len { (length blocks.old ≡ k * unit_blocks) × (k ≤ 17) }
     requires unit_bytes_bound { (first + k) * unit_bytes < size + unit_bytes }
-    ensures { (result ≡ checked_number (checked_range image.now uuid.now extents.now groups.now e g object size first k)) × (entries blocks.new ≡ map (mapping (extents_in e extents.now) object) (range (first * unit_blocks) (k * unit_blocks))) }
+    ensures { (number_in result ≡ checked_number (checked_range image.now uuid.now extents.now groups.now e g object size first k)) × (entries blocks.new ≡ map (mapping (extents_in e extents.now) object) (range (first * unit_blocks) (k * unit_blocks))) }
 {
     mapping::extents::map_blocks(extents, e, object, first * UNIT_BLOCKS as u64, blocks);
     let mut slots = [0u64; MOST_UNITS];
@@ -148,7 +130,7 @@ fn read_range(
     n: usize,
     k: usize,
     out: &mut [u8],
-) -> Given
+) -> Result<usize, Refusal>
     requires tables { Tables t.now }
     requires w_len { length w.old ≡ 4624 }
     requires blocks_len { (length blocks.old ≡ k * unit_blocks) × (k ≤ 17) }
@@ -156,21 +138,15 @@ fn read_range(
     requires k_value { k ≡ begun (offset + n) unit_bytes - offset / unit_bytes }
     requires n_nonzero { (0 < n) × (offset + n ≤ size) }
     requires n_in_bounds { n ≤ length out.old }
-    ensures { gives result.number result.count out.new ≡ gives_checked (offset % unit_bytes) n out.old (checked_units image.now uuid.now extents.now groups.now e g object size offset n) }
+    ensures { gives (number_in result) (count_in result) out.new ≡ gives_checked (offset % unit_bytes) n out.old (checked_units image.now uuid.now extents.now groups.now e g object size offset n) }
 {
     let first = offset / UNIT_BYTES as u64;
-    let number = check_range(
+    check_range(
         t, w, image, uuid, extents, e, groups, g, object, size, first, k, blocks,
-    );
-    if number != 0 {
-        return Given { number, count: 0 };
-    }
+    )?;
     let place = offset % UNIT_BYTES as u64;
     image::out::hand_out(image, blocks, place as usize, n, out);
-    Given {
-        number: 0,
-        count: n,
-    }
+    Ok(n)
 }
 
 // The same, with the tables of the checksum, its window and the room for the blocks.
@@ -186,12 +162,12 @@ fn read_units(
     offset: u64,
     n: usize,
     out: &mut [u8],
-) -> Given
+) -> Result<usize, Refusal>
     requires readable { Readable image.now extents.now groups.now e g }
     requires n_nonzero { (0 < n) × (n ≤ most_transfer) }
     requires n_bound { offset + n ≤ size }
     requires n_in_bounds { n ≤ length out.old }
-    ensures { gives result.number result.count out.new ≡ gives_checked (offset % unit_bytes) n out.old (checked_units image.now uuid.now extents.now groups.now e g object size offset n) }
+    ensures { gives (number_in result) (count_in result) out.new ≡ gives_checked (offset % unit_bytes) n out.old (checked_units image.now uuid.now extents.now groups.now e g object size offset n) }
 {
     let t = crc32c_tables::tables();
     let mut w = [0u8; 4624];
@@ -229,16 +205,13 @@ fn read_sized(
     size: u64,
     offset: u64,
     out: &mut [u8],
-) -> Given
+) -> Result<usize, Refusal>
     requires { Readable image.now extents.now groups.now e g }
-    ensures { gives result.number result.count out.new ≡ gives_sized image.now uuid.now extents.now groups.now e g object offset out.old size }
+    ensures { gives (number_in result) (count_in result) out.new ≡ gives_sized image.now uuid.now extents.now groups.now e g object offset out.old size }
 {
     let n = read_length(size, offset, out.len());
     if n == 0 {
-        return Given {
-            number: 0,
-            count: 0,
-        };
+        return Ok(0);
     }
     read_units(
         image, uuid, extents, e, groups, g, object, size, offset, n, out,
@@ -255,9 +228,9 @@ pub fn read_file(
     object: u64,
     offset: u64,
     out: &mut [u8],
-) -> Given
+) -> Result<usize, Refusal>
     requires { ReadReady image.now head.now cards.now extents.now groups.now }
-    ensures { gives result.number result.count out.new ≡ gives_read image.now head.now cards.now extents.now groups.now object offset out.old }
+    ensures { gives (number_in result) (count_in result) out.new ≡ gives_read image.now head.now cards.now extents.now groups.now object offset out.old }
 {
     let h = format::head::decode_head(head);
     let uuid = h.uuid;
@@ -277,9 +250,6 @@ pub fn read_file(
                 out,
             )
         }
-        None => Given {
-            number: 3,
-            count: 0,
-        },
+        None => Err(Refusal::NoCard),
     }
 }

@@ -87,7 +87,7 @@ fn check_unit(
     let h = format::head::decode_head(head);
     let uuid = h.uuid;
     let mut blocks = [0u32; UNIT_BLOCKS];
-    let number = read::check_range(
+    let answer = read::check_range(
         t,
         w,
         image,
@@ -102,6 +102,10 @@ fn check_unit(
         1,
         &mut blocks,
     );
+    let number = match answer {
+        Ok(()) => 0,
+        Err(r) => r.number(),
+    };
     Checks {
         number,
         made: made + 1,

@@ -14,18 +14,15 @@ use Rattle.rules.specs.Inspect as rules
 use Rattle.rules.specs.Inspect.Inspected.{damaged, hole, checked}
 use Rattle.rules.proofs.ListLaws.{if-true, if-false, and_left}
 use Rattle.kept.specs.Change.{IsChange}
-use Rattle.inspect.specs.Answer.{answer_of}
-use Rattle.inspect.specs.declared.Inspected.{Inspected}
-use Rattle.inspect.specs.declared.Inspected.TheVariants.{Damaged, Hole, Checked}
+use Rattle.std.proofs.Common.{Ok, Err}
+use Rattle.rules.specs.Refusal.{number_of}
+use Rattle.format.specs.Refusals.{refusal_of}
+use Rattle.format.specs.declared.refusal.Refusal.{Refusal}
+use Rattle.inspect.specs.Answer.{Answers}
+use Rattle.inspect.specs.declared.Inspected.TheVariants.{Hole, Checked}
 use Rattle.rewrite.specs.declared.Old.{Old}
 use Rattle.rewrite.specs.declared.Old.TheVariants.{Refused, Untouched, Unread, Verified}
 use Rattle.rewrite.specs.Steps.{read_as, old_as}
-
--- what an answer makes known, where the unit is touched or not
-unfoldable known : Bool → Inspected → Old
-known t (Damaged n) = Refused n
-known t Hole = pick t then Unread else Untouched
-known t Checked = Verified
 
 -- a unit whose old bytes are read has some
 pub reads-inside : (old new start len unit : ℕ) (b : Bool) → ((c : Change) → IsChange c old new start len → b ≡ reads_old c unit) → not b ≡ false → unit * unit_bytes < old
@@ -42,35 +39,28 @@ module _ (c : Change) (unit : ℕ) (i : rules.Inspected) (b : Bool) (h : b ≡ r
   unfolding old_as
   old-unread e = sym (if-false (reads_old c unit) (read_as c unit i) Unread (sym h ∙ not-true b e))
 
-  module _ (e : not b ≡ false) (a : Inspected) (k : a ≡ answer_of i) where
-    -- the answer says what is known
-    answered : (j : rules.Inspected) → known (touches c unit) (answer_of j) ≡ read_as c unit j
-    unfolding known answer_of read_as
-    answered (damaged r) = refl
-    answered hole = refl
-    answered (checked xs) = refl
-
-    -- so where the unit is read
-    old-known : known (touches c unit) a ≡ old_as c unit i
+  module _ (e : not b ≡ false) where
+    -- a unit that is read
+    old-read : read_as c unit i ≡ old_as c unit i
     unfolding old_as
-    old-known = ap (known (touches c unit)) k ∙ answered i ∙ sym (if-true (reads_old c unit) (read_as c unit i) Unread (sym h ∙ not-false b e))
+    old-read = sym (if-true (reads_old c unit) (read_as c unit i) Unread (sym h ∙ not-false b e))
 
     -- a refusal
-    pub old-refused : (n : ℕ) → a ≡ Damaged n → Refused n ≡ old_as c unit i
-    unfolding known
-    old-refused n q = sym (ap (known (touches c unit)) q) ∙ old-known
+    pub old-refused : (n : ℕ) (r : Refusal) → n ≡ number_of (refusal_of r) → Answers (Err r) i → Refused n ≡ old_as c unit i
+    unfolding read_as
+    old-refused n r m q = sym (ap (read_as c unit) q ∙ ap Refused (sym m)) ∙ old-read
 
     -- right bytes
-    pub old-verified : a ≡ Checked → Verified ≡ old_as c unit i
-    unfolding known
-    old-verified q = sym (ap (known (touches c unit)) q) ∙ old-known
+    pub old-verified : Answers (Ok Checked) i → Verified ≡ old_as c unit i
+    unfolding read_as
+    old-verified q = sym (ap (read_as c unit) q.1) ∙ old-read
 
     -- a hole that is touched
-    pub old-touched : a ≡ Hole → (t : Bool) → t ≡ touches c unit → t ≡ true → Unread ≡ old_as c unit i
-    unfolding known
-    old-touched q t f g = sym (if-true (touches c unit) Unread Untouched (sym f ∙ g)) ∙ sym (ap (known (touches c unit)) q) ∙ old-known
+    pub old-touched : Answers (Ok Hole) i → (t : Bool) → t ≡ touches c unit → t ≡ true → Unread ≡ old_as c unit i
+    unfolding read_as
+    old-touched q t f g = sym (ap (read_as c unit) q ∙ if-true (touches c unit) Unread Untouched (sym f ∙ g)) ∙ old-read
 
     -- one that is not
-    pub old-untouched : a ≡ Hole → (t : Bool) → t ≡ touches c unit → t ≡ false → Untouched ≡ old_as c unit i
-    unfolding known
-    old-untouched q t f g = sym (if-false (touches c unit) Unread Untouched (sym f ∙ g)) ∙ sym (ap (known (touches c unit)) q) ∙ old-known
+    pub old-untouched : Answers (Ok Hole) i → (t : Bool) → t ≡ touches c unit → t ≡ false → Untouched ≡ old_as c unit i
+    unfolding read_as
+    old-untouched q t f g = sym (ap (read_as c unit) q ∙ if-false (touches c unit) Unread Untouched (sym f ∙ g)) ∙ old-read

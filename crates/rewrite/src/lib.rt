@@ -113,9 +113,9 @@ fn verify_old(
         return Old::Unread;
     }
     match inspect::inspect_unit(t, w, image, uuid, object, old_size, unit, slot, old) {
-        inspect::Inspected::Damaged(n) => Old::Refused(n),
-        inspect::Inspected::Checked => Old::Verified,
-        inspect::Inspected::Hole => {
+        Err(r) => Old::Refused(r.number()),
+        Ok(inspect::Inspected::Checked) => Old::Verified,
+        Ok(inspect::Inspected::Hole) => {
             if kept::tests::touches(offset, len, unit) {
                 return Old::Unread;
             }

@@ -50,10 +50,15 @@ pub fn sangueko_read(
     if number != 0 {
         return Answer { number, count: 0 };
     }
-    let given = read::read_file(image, head, cards, extents, groups, object, offset, out);
-    Answer {
-        number: given.number,
-        count: given.count as u64,
+    match read::read_file(image, head, cards, extents, groups, object, offset, out) {
+        Ok(n) => Answer {
+            number: 0,
+            count: n as u64,
+        },
+        Err(r) => Answer {
+            number: r.number(),
+            count: 0,
+        },
     }
 }
 

@@ -1,21 +1,21 @@
 use native.Mathlib.Omega.{arith}
+use Rattle.std.proofs.lemmas.Result.{err_from_is_err_and}
+use Rattle.format.specs.Refusals.{number_in}
 use Rattle.inspect.proofs.AnswerLaws.{number-begun, number_more, number-refused, number-done}
 use Rattle.inspect.proofs.check_units.Goals as goal
 
 pub loop-k-init : goal.loop-k-init
-loop-k-init c = (omega arith, omega arith, number-begun _ _ _ _ _ _ _)
+loop-k-init c = number-begun _ _ _ _ _ _ _
 
-pub refused_at-r-requires : goal.refused_at-r-requires
-refused_at-r-requires c =
-    let p = c.requires in
-    let b = p.by_index c.loop-k.k (omega arith) in
-    record { tables = p.tables; w_len = omega arith; blocks_len = p.blocks_len; inside = p.inside; k_in_bounds = (omega arith, b.0, b.1) }
-
-pub returns-then-r-ne0 : goal.returns-then-r-ne0
-returns-then-r-ne0 c = number-refused _ _ _ _ _ _ _ c.loop-k.k _ _ (omega arith) c.loop-k.invariant.2 c.refused_at-r.ensures c.if-r-ne0.true
+pub returns-in_err-inspect_unit : goal.returns-in_err-inspect_unit
+unfolding number_in
+returns-in_err-inspect_unit c =
+    let p = err_from_is_err_and c.from_residual.result c.from_residual.ensures.1 in
+    rw (p.1, p.2) (number-refused _ _ _ _ _ _ _ c.loop-k.k _ _ c.loop-k-test.true c.loop-k.invariant c.in_err-inspect_unit.ensures)
 
 pub loop-k-preserved : goal.loop-k-preserved
-loop-k-preserved c = (omega arith, omega (arith, c.refused_at-r.auto.w), number_more _ _ _ _ _ _ _ c.loop-k.k _ _ (omega arith) c.loop-k.invariant.2 c.refused_at-r.ensures c.if-r-ne0.false)
+loop-k-preserved c = number_more _ _ _ _ _ _ _ c.loop-k.k _ _ c.loop-k-test.true c.loop-k.invariant c.in_ok-inspect_unit.ensures
 
 pub returns : goal.returns
-returns c = number-done _ _ _ _ _ _ _ _ _ (omega arith) c.loop-k.invariant.2
+unfolding number_in
+returns c = number-done _ _ _ _ _ _ _ c.loop-k.k _ (omega arith) c.loop-k.invariant

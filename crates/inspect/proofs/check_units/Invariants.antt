@@ -1,8 +1,6 @@
 -- `inspect::check_units` meets its contract. The loop keeps: the first refusal is that of the units from the `k`-th on.
 -- Assumes nothing.
 use mathlib.Core.Path.{◌≡◌}
-use Prim.Native.Nat.{◌-◌, ◌≤◌}
-use lib.ListN.{length}
 use Rattle.mapping.specs.Entries.{entries}
 use Rattle.inspect.specs.Mapped.{check_mapped}
 use Rattle.rules.specs.Answers.{checked_number}
@@ -11,7 +9,4 @@ use Rattle.inspect.proofs.check_units.Given as goal
 
 abbrev pub invariant-loop-k : goal.invariant-loop-k
 invariant-loop-k l =
-    (l.k ≤ length l.slots) × (length l.w ≡ 4624) × (checked_number (check_mapped l.image l.uuid l.object l.size l.first (entries l.slots) (entries l.blocks)) ≡ number_from l.image l.uuid l.object l.size l.first l.slots l.blocks l.k)
-
-abbrev pub decreases-loop-k : goal.decreases-loop-k
-decreases-loop-k l = length l.slots - l.k
+    checked_number (check_mapped l.image l.uuid l.object l.size l.first (entries l.slots) (entries l.blocks)) ≡ number_from l.image l.uuid l.object l.size l.first l.slots l.blocks l.k

@@ -1,6 +1,8 @@
 -- `read::read_file` meets its contract.
 -- Assumes nothing.
 use native.Mathlib.Omega.{arith}
+use Rattle.rules.specs.Refusal.{number_of}
+use Rattle.format.specs.Refusals.{refusal_of, number_in, count_in}
 use Rattle.read.proofs.GivesLaws.{head-cards, head-books, card-within, read_none, read_some}
 use Rattle.read.proofs.read_file.Goals as goal
 
@@ -20,4 +22,5 @@ pub returns-in-Some : goal.returns-in-Some
 returns-in-Some c = read_some _ _ c.decode_head-h.ensures.0 _ _ _ c.find_card.ensures _ _ _ _ _ _ _ _ _ _ c.in-Some.is c.card_size-size.ensures.0 c.read_sized.ensures
 
 pub returns-in-None : goal.returns-in-None
+unfolding number_in count_in refusal_of number_of
 returns-in-None c = read_none _ _ c.decode_head-h.ensures.0 _ _ _ c.find_card.ensures _ _ _ _ _ c.in-None.is

@@ -1,9 +1,11 @@
 -- `read::read_sized` meets its contract.
 -- Assumes nothing.
+use Rattle.format.specs.Refusals.{number_in, count_in}
 use Rattle.read.proofs.GivesLaws.{read-within, sized-none, sized-some}
 use Rattle.read.proofs.read_sized.Goals as goal
 
 pub returns-then-n-eq0 : goal.returns-then-n-eq0
+unfolding number_in count_in
 returns-then-n-eq0 c = sized-none _ _ _ _ _ _ _ _ _ _ _ c.read_length-n.ensures c.if-n-eq0.true
 
 pub read_units-requires : goal.read_units-requires
