@@ -3,7 +3,7 @@
 use mathlib.Core.Path.{◌≡◌, refl, sym, ap, ◌∙◌}
 use mathlib.Core.Bool.{Bool, true, false, not, ◌&&◌, ◌||◌}
 use mathlib.Core.List.{List, []}
-use mathlib.Core.Option.{none, some}
+use Rattle.std.specs.Prelude.{Option, Some, None}
 use Prim.Native.Nat.{ℕ, suc, ◌+◌, ◌-◌, ◌*◌, ◌≤◌, ◌<◌}
 use native.Mathlib.Nat.{add-zero}
 use native.Mathlib.Omega.{arith}
@@ -26,9 +26,7 @@ use Rattle.halving.specs.Halving.{looked, ends_at, Parted}
 use Rattle.halving.specs.Keys.{reaches, object_at, number_at, reached, owned_before}
 use Rattle.halving.proofs.HalvingLaws.{Falls, parted, parted-as, ends-within, looked-same, ends_same, ends-each}
 use Rattle.halving.proofs.KeyLaws.{or-none, falls-ordered}
-use Rattle.book.specs.declared.Found.{Found}
-use Rattle.book.specs.declared.Found.TheVariants.{At, Nothing}
-use Rattle.book.specs.Places.{record_at, place_of, leading, FloorExtent, card_under, extent_under, extent_up_to, extent_reached, reached_at, own_before, SearchedBook, group_under}
+use Rattle.book.specs.Places.{record_at, leading, FloorExtent, card_under, extent_under, extent_up_to, extent_reached, reached_at, own_before, SearchedBook, group_under}
 use Rattle.book.proofs.SearchLaws.{FailBehind, record-at, leading-parted, found-last, found-no-last, floor-extent}
 
 -- ---- keys
@@ -226,11 +224,11 @@ module _ (object block n : ℕ) (s : List ℕ) (place : ℕ) (e : place ≡ ends
         (λ p. absurd (clash (h.behind j l k) (up-to-reached object block (record_at decode_extent extent_bytes s j) p))) (λ p. p)
 
     -- the floor is the extent in front of it
-    pub floor-at : t ≡ true → ascending extent_before (decode_book decode_extent extent_bytes n s) ≡ true → FloorExtent object block n s (At (place - 1))
+    pub floor-at : t ≡ true → ascending extent_before (decode_book decode_extent extent_bytes n s) ≡ true → FloorExtent object block n s (Some (place - 1))
     floor-at p h =
         let q : Parted (reached_at object block s) n place = parted-extents h in
         let l : 1 ≤ place = own-some object s place t o p in
-        floor-extent object block n s (At (place - 1))
+        floor-extent object block n s (Some (place - 1))
         (found-last decode_extent extent_bytes s (extent_up_to object block) n place true l q.most (none-behind q)
         (sym (own-up-to object block (record_at decode_extent extent_bytes s (place - 1)) (q.front (place - 1) (omega arith)) (own-object object s place t o p))) refl)
 
@@ -255,9 +253,9 @@ module _ (object block n : ℕ) (s : List ℕ) (place : ℕ) (e : place ≡ ends
             pair_before-cases ⊥ (record_at decode_extent extent_bytes s j).object (record_at decode_extent extent_bytes s j).logical object 0 v (λ u. omega (arith, q)) (λ u y. omega arith))
 
     -- there is none
-    pub floor-none : t ≡ false → ascending extent_before (decode_book decode_extent extent_bytes n s) ≡ true → FloorExtent object block n s Nothing
+    pub floor-none : t ≡ false → ascending extent_before (decode_book decode_extent extent_bytes n s) ≡ true → FloorExtent object block n s None
     floor-none p h =
-        floor-extent object block n s Nothing
+        floor-extent object block n s None
         (found-no-last decode_extent extent_bytes s (extent_up_to object block) n 0 (omega arith) (λ j l k.
         test-cases (extent_up_to object block (record_at decode_extent extent_bytes s j) ≡ false) (extent_up_to object block (record_at decode_extent extent_bytes s j))
         (λ u. test-cases (extent_up_to object block (record_at decode_extent extent_bytes s j) ≡ false) (ltb j place)
@@ -277,37 +275,33 @@ module _ (object block n : ℕ) (s : List ℕ) (place : ℕ) (e : place ≡ ends
           (each-any (λ i. extent-reached s object block i) (looked (reached true object block extent_bytes s) n))))
 
       -- what the search did where an extent was found
-      pub searched-at : t ≡ true → SearchedBook object block n s (At (place - 1)) place rounds
-      unfolding place_of
-      searched-at p = record { most = few m; looks = rw same-looked c; ends = same_end; answer = sym (if-true (own_before object s place) (some (place - 1)) none (sym (own_same object s place) ∙ sym o ∙ p)) }
+      pub searched-at : t ≡ true → SearchedBook object block n s (Some (place - 1)) place rounds
+      searched-at p = record { most = few m; looks = rw same-looked c; ends = same_end; answer = sym (if-true (own_before object s place) (Some (place - 1)) None (sym (own_same object s place) ∙ sym o ∙ p)) }
 
       -- and where none was
-      pub searched-none : t ≡ false → SearchedBook object block n s Nothing place rounds
-      unfolding place_of
-      searched-none p = record { most = few m; looks = rw same-looked c; ends = same_end; answer = sym (if-false (own_before object s place) (some (place - 1)) none (sym (own_same object s place) ∙ sym o ∙ p)) }
+      pub searched-none : t ≡ false → SearchedBook object block n s None place rounds
+      searched-none p = record { most = few m; looks = rw same-looked c; ends = same_end; answer = sym (if-false (own_before object s place) (Some (place - 1)) None (sym (own_same object s place) ∙ sym o ∙ p)) }
 
 -- ---- what a search that was made says
 
-module _ {object block n : ℕ} {s : List ℕ} {found : Found} {place rounds : ℕ} (h : SearchedBook object block n s found place rounds) where
+module _ {object block n : ℕ} {s : List ℕ} {found : Option ℕ} {place rounds : ℕ} (h : SearchedBook object block n s found place rounds) where
   -- the extent that was found stands in front of the place, and is one of the object
-  pub searched-own : (i : ℕ) → found ≡ At i → (place ≡ i + 1) × ((record_at decode_extent extent_bytes s i).object ≡ object)
-  unfolding place_of
+  pub searched-own : (i : ℕ) → found ≡ Some i → (place ≡ i + 1) × ((record_at decode_extent extent_bytes s i).object ≡ object)
   searched-own i e =
-      let a : some i ≡ (pick own_before object s place then some (place - 1) else none) = rw e at h.answer in
+      let a : Some i ≡ (pick own_before object s place then Some (place - 1) else None) = rw e at h.answer in
       test-cases ((place ≡ i + 1) × ((record_at decode_extent extent_bytes s i).object ≡ object)) (own_before object s place)
-      (λ t. let q : some i ≡ some (place - 1) = a ∙ if-true (own_before object s place) (some (place - 1)) none t in
+      (λ t. let q : Some i ≡ Some (place - 1) = a ∙ if-true (own_before object s place) (Some (place - 1)) None t in
       let k : i ≡ place - 1 = cc in
       let l : 1 ≤ place = own-some object s place true (sym t ∙ sym (own_same object s place)) refl in
       (omega arith, rw k (own-object object s place true (sym t ∙ sym (own_same object s place)) refl)))
-      (λ t. let q : some i ≡ none = a ∙ if-false (own_before object s place) (some (place - 1)) none t in let z : ◌≡◌ {A = ℕ} 0 1 = cc in absurd (omega arith))
+      (λ t. let q : Some i ≡ None = a ∙ if-false (own_before object s place) (Some (place - 1)) None t in let z : ◌≡◌ {A = ℕ} 0 1 = cc in absurd (omega arith))
 
   -- where none was found, the one in front of the place is of another
-  pub searched-other : found ≡ Nothing → 0 < place → (record_at decode_extent extent_bytes s (place - 1)).object ≡ object → ⊥
-  unfolding place_of
+  pub searched-other : found ≡ None → 0 < place → (record_at decode_extent extent_bytes s (place - 1)).object ≡ object → ⊥
   searched-other e l =
-      let a : none ≡ (pick own_before object s place then some (place - 1) else none) = rw e at h.answer in
+      let a : None ≡ (pick own_before object s place then Some (place - 1) else None) = rw e at h.answer in
       test-cases ((record_at decode_extent extent_bytes s (place - 1)).object ≡ object → ⊥) (own_before object s place)
-      (λ t. let q : none ≡ some (place - 1) = a ∙ if-true (own_before object s place) (some (place - 1)) none t in let z : ◌≡◌ {A = ℕ} 0 1 = cc in absurd (omega arith))
+      (λ t. let q : None ≡ Some (place - 1) = a ∙ if-true (own_before object s place) (Some (place - 1)) None t in let z : ◌≡◌ {A = ℕ} 0 1 = cc in absurd (omega arith))
       (λ t. not_own object s place false (sym t ∙ sym (own_same object s place)) refl l)
 
 -- ---- nothing but the extents looked at decides
@@ -317,15 +311,7 @@ pub record SameKey (s t : List ℕ) (i : ℕ) : Type 0 where
   pub objects : (record_at decode_extent extent_bytes s i).object ≡ (record_at decode_extent extent_bytes t i).object
   pub blocks : (record_at decode_extent extent_bytes s i).logical ≡ (record_at decode_extent extent_bytes t i).logical
 
--- what was found is known by its place
-found-by-place : (x y : Found) → place_of x ≡ place_of y → x ≡ y
-unfolding place_of
-found-by-place (At i) (At j) e = let q : i ≡ j = cc in ap At q
-found-by-place (At i) Nothing e = let z : ◌≡◌ {A = ℕ} 0 1 = cc in absurd (omega arith)
-found-by-place Nothing (At j) e = let z : ◌≡◌ {A = ℕ} 0 1 = cc in absurd (omega arith)
-found-by-place Nothing Nothing e = refl
-
-module _ {object block n : ℕ} {s t : List ℕ} {x y : Found} {p q c d : ℕ} (a : SearchedBook object block n s x p c) (b : SearchedBook object block n t y q d)
+module _ {object block n : ℕ} {s t : List ℕ} {x y : Option ℕ} {p q c d : ℕ} (a : SearchedBook object block n s x p c) (b : SearchedBook object block n t y q d)
     (h : Each (SameKey s t) (looked (reached_at object block s) n)) where
   -- the same extents are reached
   same-reached : Each (λ i. reached_at object block s i ≡ reached_at object block t i) (looked (reached_at object block s) n)
@@ -346,7 +332,7 @@ module _ {object block n : ℕ} {s t : List ℕ} {x y : Found} {p q c d : ℕ} (
   -- two searches in books that have the same keys where one of them looks answer the same, after as many rounds
   pub decided : (x ≡ y) × (p ≡ q) × (c ≡ d)
   decided = (
-    found-by-place x y (a.answer ∙ rw (same-own, same_place) refl ∙ sym b.answer),
+    a.answer ∙ rw (same-own, same_place) refl ∙ sym b.answer,
     same_place,
     a.looks ∙ ap (λ (is : List ℕ). length is) (sym (looked-same (reached_at object block s) (reached_at object block t) n same-reached)) ∙ sym b.looks,
   )

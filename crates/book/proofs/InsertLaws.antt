@@ -1,11 +1,11 @@
 -- A record put into a book at its place: the records before it, it, and the others; and the bytes of a book after an exchange are those that say its records.
 -- Assumes nothing.
-use mathlib.Core.Path.{◌≡◌, refl, sym, ap, ◌∙◌}
+use mathlib.Core.Path.{◌≡◌, refl, sym, ap}
 use mathlib.Core.List.{List, [], ◌∷◌, ◌++◌}
 use mathlib.Core.Bool.{Bool, true, ◌&&◌}
 use Prim.Native.Nat.{ℕ, zero, suc, ◌+◌, ◌-◌, ◌*◌, ◌≤◌}
 use lib.ListN.{length, take, drop}
-use Rattle.rules.specs.Lists.{pick◌then◌else◌, all, insert}
+use Rattle.rules.specs.Lists.{all, insert}
 use Rattle.rules.specs.Bytes.{Bytes, pieces}
 use Rattle.rules.specs.Book.{decode_book, encode_book}
 use Rattle.rules.proofs.ListLaws.{test-cases, if-true, if-false, and_left, and_right, and_intro, all_append}

@@ -3,14 +3,15 @@
 use mathlib.Core.Path.{◌≡◌, refl, sym, ap, ◌∙◌}
 use mathlib.Core.Bool.{Bool, true, false, not}
 use mathlib.Core.List.{List, [], ◌∷◌, get_last?}
-use mathlib.Core.Option.{Option, none, some}
+use mathlib.Core.Option.{some}
+use Rattle.std.specs.Prelude.{Option, Some, None}
 use Prim.Native.Nat.{ℕ, zero, suc, ◌+◌, ◌-◌, ◌*◌, ◌≤◌, ◌<◌}
 use native.Mathlib.Omega.{arith}
 use borrow.Author.Count.{below_more}
 use borrow.Author.Tests.{eq-eqb, ne_eqb, not-false}
 use lib.Dec.{eqb}
 use lib.ListN.{length, get_or}
-use Rattle.rules.specs.Lists.{pick◌then◌else◌, maybe, any, filter}
+use Rattle.rules.specs.Lists.{pick◌then◌else◌, any, filter}
 use Rattle.rules.specs.Bytes.{part}
 use Rattle.rules.specs.Card.{card_bytes, decode_card}
 use Rattle.rules.specs.Extent.{extent_bytes, decode_extent, covers}
@@ -22,9 +23,7 @@ use Rattle.rules.proofs.BookLaws.{length-decode_book, get_or-decode_book}
 use Rattle.format.specs.declared.extent.Extent.{Extent as ExtentStruct}
 use Rattle.format.specs.Records.{extent_of}
 use Rattle.halving.specs.Halving.{Parted}
-use Rattle.book.specs.declared.Found.{Found}
-use Rattle.book.specs.declared.Found.TheVariants.{At, Nothing}
-use Rattle.book.specs.Places.{record_at, found_in, place_of, first_place, last_place, leading, FoundFirst, FloorExtent, card_is, extent_up_to, group_is}
+use Rattle.book.specs.Places.{record_at, found_in, first_place, last_place, leading, FoundFirst, FloorExtent, card_is, extent_up_to, group_is}
 
 -- ---- lists
 
@@ -34,27 +33,27 @@ module _ {A : Type 0} (f : A → Bool) (d : A) where
   any_none xs h = test-cases (any f xs ≡ false) (any f xs) (λ t. let r = any-index f xs d t in absurd (clash (h r.0 r.1) r.2)) (λ t. t)
 
   -- then none is the first
-  first-none : (xs : List A) → ((j : ℕ) → j < length xs → f (get_or xs j d) ≡ false) → first_place f xs ≡ none
-  unfolding first_place pick◌then◌else◌ maybe
+  first-none : (xs : List A) → ((j : ℕ) → j < length xs → f (get_or xs j d) ≡ false) → first_place f xs ≡ None
+  unfolding first_place pick◌then◌else◌
   first-none [] h = refl
   first-none (x ∷ xs) h = rw (h 0 (omega arith), first-none xs (λ j l. h (suc j) (omega arith))) refl
 
   -- an element passes, and none in front of it
-  first-at : (xs : List A) (i : ℕ) → i < length xs → f (get_or xs i d) ≡ true → ((j : ℕ) → j < i → f (get_or xs j d) ≡ false) → first_place f xs ≡ some i
-  unfolding first_place pick◌then◌else◌ maybe
+  first-at : (xs : List A) (i : ℕ) → i < length xs → f (get_or xs i d) ≡ true → ((j : ℕ) → j < i → f (get_or xs j d) ≡ false) → first_place f xs ≡ Some i
+  unfolding first_place pick◌then◌else◌
   first-at [] i l t h = absurd (omega arith)
   first-at (x ∷ xs) zero l t h = rw t refl
   first-at (x ∷ xs) (suc i) l t h = rw (h 0 (omega arith), first-at xs i (omega arith) t (λ j m. h (suc j) (omega arith))) refl
 
   -- no element passes, so none is the last
-  last_none : (xs : List A) → ((j : ℕ) → j < length xs → f (get_or xs j d) ≡ false) → last_place f xs ≡ none
-  unfolding last_place pick◌then◌else◌ maybe
+  last_none : (xs : List A) → ((j : ℕ) → j < length xs → f (get_or xs j d) ≡ false) → last_place f xs ≡ None
+  unfolding last_place pick◌then◌else◌
   last_none [] h = refl
   last_none (x ∷ xs) h = rw (last_none xs (λ j l. h (suc j) (omega arith)), h 0 (omega arith)) refl
 
   -- an element passes, and none behind it
-  last-at : (xs : List A) (i : ℕ) → i < length xs → f (get_or xs i d) ≡ true → ((j : ℕ) → suc i ≤ j → j < length xs → f (get_or xs j d) ≡ false) → last_place f xs ≡ some i
-  unfolding last_place pick◌then◌else◌ maybe
+  last-at : (xs : List A) (i : ℕ) → i < length xs → f (get_or xs i d) ≡ true → ((j : ℕ) → suc i ≤ j → j < length xs → f (get_or xs j d) ≡ false) → last_place f xs ≡ Some i
+  unfolding last_place pick◌then◌else◌
   last-at [] i l t h = absurd (omega arith)
   last-at (x ∷ xs) zero l t h = rw (last_none xs (λ j m. h (suc j) (omega arith) (omega arith)), t) refl
   last-at (x ∷ xs) (suc i) l t h = rw (last-at xs i (omega arith) t (λ j m n. h (suc j) (omega arith) (omega arith))) refl
@@ -102,10 +101,10 @@ module _ {A : Type 0} (f : A → Bool) (d : A) where
 -- ---- books
 
 -- the last record that passes the test was found
-pub record FoundLast {A : Type 0} (f : A → Bool) (decode : List ℕ → A) (w n : ℕ) (s : List ℕ) (r : Found) : Type 0 where
-  pub place : place_of r ≡ last_place f (decode_book decode w n s)
+pub record FoundLast {A : Type 0} (f : A → Bool) (decode : List ℕ → A) (w n : ℕ) (s : List ℕ) (r : Option ℕ) : Type 0 where
+  pub place : r ≡ last_place f (decode_book decode w n s)
   pub found : found_in decode w s r ≡ get_last? (filter f (decode_book decode w n s))
-  pub within : (i : ℕ) → place_of r ≡ some i → i < n
+  pub within : (i : ℕ) → r ≡ Some i → i < n
 
 -- the first i records fail the test
 abbrev pub Fails : {A : Type 0} → (A → Bool) → (List ℕ → A) → ℕ → List ℕ → ℕ → Type 0
@@ -120,11 +119,11 @@ abbrev pub Passes : {A : Type 0} → (A → Bool) → (List ℕ → A) → ℕ �
 Passes f decode w s i = (j : ℕ) → j < i → f (record_at decode w s j) ≡ true
 
 -- a place that was found is the one that was answered
-same_place : (n i j : ℕ) → i < n → some i ≡ some j → j < n
+same_place : (n i j : ℕ) → i < n → Some i ≡ Some j → j < n
 same_place n i j l e = let q : i ≡ j = cc in omega arith
 
 -- where none was found none was answered
-no_place : (n j : ℕ) → ◌≡◌ {A = Option ℕ} none (some j) → j < n
+no_place : (n j : ℕ) → ◌≡◌ {A = Option ℕ} None (Some j) → j < n
 no_place n j e = let z : ◌≡◌ {A = ℕ} 0 1 = cc in absurd (omega arith)
 
 module _ {A : Type 0} (decode : List ℕ → A) (w : ℕ) (s : List ℕ) where
@@ -152,8 +151,8 @@ module _ {A : Type 0} (decode : List ℕ → A) (w : ℕ) (s : List ℕ) where
 
     module _ (n : ℕ) where
       -- the first was found
-      pub found_first : (i : ℕ) (m : Bool) → i < n → Fails f decode w s i → m ≡ f (record_at decode w s i) → m ≡ true → FoundFirst f decode w n s (At i)
-      unfolding place_of found_in
+      pub found_first : (i : ℕ) (m : Bool) → i < n → Fails f decode w s i → m ≡ f (record_at decode w s i) → m ≡ true → FoundFirst f decode w n s (Some i)
+      unfolding found_in
       found_first i m l h e t =
           let b : List A = decode_book decode w n s in
           let len : length b ≡ n = length-decode_book decode w n s in
@@ -166,8 +165,8 @@ module _ {A : Type 0} (decode : List ℕ → A) (w : ℕ) (s : List ℕ) where
           }
 
       -- none was
-      pub found_none : (i : ℕ) → n ≤ i → Fails f decode w s i → FoundFirst f decode w n s Nothing
-      unfolding place_of found_in
+      pub found_none : (i : ℕ) → n ≤ i → Fails f decode w s i → FoundFirst f decode w n s None
+      unfolding found_in
       found_none i l h =
           let b : List A = decode_book decode w n s in
           let len : length b ≡ n = length-decode_book decode w n s in
@@ -175,8 +174,8 @@ module _ {A : Type 0} (decode : List ℕ → A) (w : ℕ) (s : List ℕ) where
           record { place = sym (first-none f (decode []) b all); found = sym (find_none f b (any_none f (decode []) b all)); within = λ j q. no_place n j q }
 
       -- the last was found
-      pub found-last : (i : ℕ) (m : Bool) → 0 < i → i ≤ n → FailBehind f decode w n s i → m ≡ f (record_at decode w s (i - 1)) → m ≡ true → FoundLast f decode w n s (At (i - 1))
-      unfolding place_of found_in
+      pub found-last : (i : ℕ) (m : Bool) → 0 < i → i ≤ n → FailBehind f decode w n s i → m ≡ f (record_at decode w s (i - 1)) → m ≡ true → FoundLast f decode w n s (Some (i - 1))
+      unfolding found_in
       found-last i m z l h e t =
           let b : List A = decode_book decode w n s in
           let len : length b ≡ n = length-decode_book decode w n s in
@@ -189,8 +188,8 @@ module _ {A : Type 0} (decode : List ℕ → A) (w : ℕ) (s : List ℕ) where
           }
 
       -- none was
-      pub found-no-last : (i : ℕ) → i ≤ 0 → FailBehind f decode w n s i → FoundLast f decode w n s Nothing
-      unfolding place_of found_in
+      pub found-no-last : (i : ℕ) → i ≤ 0 → FailBehind f decode w n s i → FoundLast f decode w n s None
+      unfolding found_in
       found-no-last i l h =
           let b : List A = decode_book decode w n s in
           let len : length b ≡ n = length-decode_book decode w n s in
@@ -206,7 +205,7 @@ module _ {A : Type 0} (decode : List ℕ → A) (w : ℕ) (s : List ℕ) where
           (λ k. test_at n place false (omega arith) (h.behind place (omega arith) (omega arith))))
 
 -- of extents up to a block that is the last one from there
-pub floor-extent : (object block n : ℕ) (s : List ℕ) (r : Found) → FoundLast (extent_up_to object block) decode_extent extent_bytes n s r → FloorExtent object block n s r
+pub floor-extent : (object block n : ℕ) (s : List ℕ) (r : Option ℕ) → FoundLast (extent_up_to object block) decode_extent extent_bytes n s r → FloorExtent object block n s r
 unfolding floor_extent
 floor-extent object block n s r h = record { place = h.place; found = h.found; within = h.within }
 

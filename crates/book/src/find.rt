@@ -10,7 +10,6 @@ ghost use Rattle.rules.specs.Book.{decode_book};
 ghost use Rattle.halving.specs.Halving.{Parted};
 ghost use Rattle.book.specs.Places.{record_at, FoundFirst, FloorExtent, SearchedBook, reached_at, leading, card_is, card_under, extent_under, group_is, group_under};
 
-use super::Found;
 use checksum_group::GROUP_BYTES;
 use format::card::CARD_BYTES;
 use format::extent::EXTENT_BYTES;
@@ -24,18 +23,18 @@ fn card_is(s: &[u8], i: usize, object: u64) -> bool
 }
 
 // The card of `object` among the first `n`.
-pub fn find_card(s: &[u8], n: usize, object: u64) -> Found
+pub fn find_card(s: &[u8], n: usize, object: u64) -> Option<usize>
     requires { card_bytes * n ≤ length s.now }
     ensures { FoundFirst (card_is object) decode_card card_bytes n s.now result }
 {
     let mut i: usize = 0;
     while i < n {
         if card_is(s, i, object) {
-            return Found::At(i);
+            return Some(i);
         }
         i += 1;
     }
-    Found::Nothing
+    None
 }
 
 // Whether the group at place `i` has this key.
@@ -51,24 +50,24 @@ fn group_is(s: &[u8], i: usize, object: u64, number: u64) -> bool
 }
 
 // The group with this key among the first `n`.
-pub fn find_group(s: &[u8], n: usize, object: u64, number: u64) -> Found
+pub fn find_group(s: &[u8], n: usize, object: u64, number: u64) -> Option<usize>
     requires { group_bytes * n ≤ length s.now }
     ensures { FoundFirst (group_is object number) decode_group group_bytes n s.now result }
 {
     let mut i: usize = 0;
     while i < n {
         if group_is(s, i, object, number) {
-            return Found::At(i);
+            return Some(i);
         }
         i += 1;
     }
-    Found::Nothing
+    None
 }
 
 // What a search for a floor found, how many extents it puts before the key of object and block or at it, and in how many rounds.
 #[derive(Clone, Copy)]
 pub struct Searched {
-    pub found: Found,
+    pub found: Option<usize>,
     pub place: usize,
     pub rounds: u32,
 }
@@ -82,9 +81,9 @@ pub fn search_extent(s: &[u8], n: usize, object: u64, block: u64) -> Searched
     ensures searched_book { SearchedBook object block n s.now result.found result.place result.rounds }
 {
     let h = halving::halve(s, EXTENT_BYTES, n, object, block, true);
-    let mut found = Found::Nothing;
+    let mut found = None;
     if h.same {
-        found = Found::At(h.place - 1);
+        found = Some(h.place - 1);
     }
     Searched {
         found,
@@ -94,7 +93,7 @@ pub fn search_extent(s: &[u8], n: usize, object: u64, block: u64) -> Searched
 }
 
 // The floor alone.
-pub fn floor_extent(s: &[u8], n: usize, object: u64, block: u64) -> Found
+pub fn floor_extent(s: &[u8], n: usize, object: u64, block: u64) -> Option<usize>
     requires n_in_bounds { extent_bytes * n ≤ length s.now }
     requires n_le_most_places { n ≤ most_places }
     ensures { ascending extent_before (decode_book decode_extent extent_bytes n s.now) ≡ true → FloorExtent object block n s.now result }
@@ -112,18 +111,18 @@ fn extent_covers(s: &[u8], i: usize, object: u64, block: u64) -> bool
 }
 
 // The extent among the first `n` that maps this block of the file of `object`.
-pub fn covering(s: &[u8], n: usize, object: u64, block: u64) -> Found
+pub fn covering(s: &[u8], n: usize, object: u64, block: u64) -> Option<usize>
     requires { extent_bytes * n ≤ length s.now }
     ensures { FoundFirst (covers object block) decode_extent extent_bytes n s.now result }
 {
     let mut i: usize = 0;
     while i < n {
         if extent_covers(s, i, object, block) {
-            return Found::At(i);
+            return Some(i);
         }
         i += 1;
     }
-    Found::Nothing
+    None
 }
 
 // The place of the first card whose object is `object` or more, or `n`. A card has no number in its key: against 0, under which nothing stands, the bytes at

@@ -6,10 +6,3 @@
 pub mod find;
 pub mod order;
 pub mod splice;
-
-// The place of a record that was found.
-#[derive(Clone, Copy)]
-pub enum Found {
-    At(usize),
-    Nothing,
-}

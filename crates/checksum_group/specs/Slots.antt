@@ -1,15 +1,14 @@
 -- What a checksum group in hand says: the slots of its presence bits and values, and the group of rules that it stands for under a key.
 -- Assumes nothing.
-use Rattle.std.specs.Prelude.{◌≡◌, Bool, ◌||◌, ℕ, ◌-◌, ◌≤◌, ◌<◌, eqb, get_or, drop}
+use Rattle.std.specs.Prelude.{◌≡◌, Bool, ◌||◌, ℕ, ◌-◌, ◌≤◌, ◌<◌, eqb, get_or, drop, Option, Some, None}
 use mathlib.Core.List.{List, ◌++◌, map, flat_map, zip_with}
-use Rattle.std.proofs.Math.Option.{Option, none, some}
+use Rattle.std.proofs.Math.Option.{none, some}
+use Rattle.std.proofs.Math.Option as option
 use Rattle.rules.specs.Lists.{pick◌then◌else◌, maybe, range}
 use Rattle.rules.specs.Sizes.{group_units}
 use Rattle.rules.specs.Bytes.{le, part, pieces, bit_set}
 use Rattle.rules.specs.Group.{Group, presence, slot_bytes, slot_values}
 use Rattle.checksum_group.specs.declared.ChecksumGroup as group
-use Rattle.checksum_group.specs.declared.Slot as slot
-use Rattle.checksum_group.specs.declared.Slot.TheVariants.{Present, Absent}
 
 -- the bytes of a group's presence bits
 abbrev pub presence_bytes : ℕ
@@ -20,12 +19,12 @@ abbrev pub slot_width : ℕ
 slot_width = 4
 
 -- the slots of presence bytes and slot values: present where the bit is set, whatever value stands where it is not
-unfoldable pub slots_from : List ℕ → List ℕ → List (Option ℕ)
+unfoldable pub slots_from : List ℕ → List ℕ → List (option.Option ℕ)
 slots_from present values =
     zip_with (λ bit crc. pick bit then some crc else none) (map (bit_set present) (range 0 group_units)) values
 
 -- the slots that a checksum group in hand says
-unfoldable pub slots_of : group.ChecksumGroup → List (Option ℕ)
+unfoldable pub slots_of : group.ChecksumGroup → List (option.Option ℕ)
 slots_of g = slots_from g.present g.slots
 
 -- the group that it says under a key
@@ -33,16 +32,16 @@ unfoldable pub group_of : ℕ → ℕ → group.ChecksumGroup → Group
 group_of object number g = record { object = object; number = number; slots = slots_of g }
 
 -- the checksum that a slot says, if it is present
-unfoldable pub crc_of : slot.Slot → Option ℕ
-crc_of (Present crc) = some crc
-crc_of Absent = none
+unfoldable pub crc_of : Option ℕ → option.Option ℕ
+crc_of (Some crc) = some crc
+crc_of None = none
 
 -- the value that is written for a slot: zero where it is not present
-unfoldable pub value_of : Option ℕ → ℕ
+unfoldable pub value_of : option.Option ℕ → ℕ
 value_of slot = maybe 0 (λ crc. crc) slot
 
 -- a group's value: presence bytes, and behind them the slots
-abbrev pub value_bytes : List (Option ℕ) → List ℕ
+abbrev pub value_bytes : List (option.Option ℕ) → List ℕ
 value_bytes slots = presence slots ++ flat_map slot_bytes slots
 
 -- the 256 values of 4 bytes little-endian from a place on

@@ -38,13 +38,6 @@ pub struct ChecksumGroup {
     pub slots: [u32; GROUP_UNITS],
 }
 
-// What stands in a slot.
-#[derive(Clone, Copy)]
-pub enum Slot {
-    Present(u32),
-    Absent,
-}
-
 // A group with no slot present.
 pub fn empty_group() -> ChecksumGroup
     ensures { (object number : ℕ) → group_of object number result ≡ empty_group object number }
@@ -64,28 +57,28 @@ fn bit_at(byte: u8, k: usize) -> bool
 }
 
 // The checksum in slot `n`, if it is present.
-pub fn checksum_slot(g: ChecksumGroup, n: usize) -> Slot
+pub fn checksum_slot(g: ChecksumGroup, n: usize) -> Option<u32>
     requires { n < group_units }
     ensures { (object number : ℕ) → crc_of result ≡ checksum_slot (group_of object number g) n }
 {
     let b = n / 8;
     if bit_at(g.present[b], n % 8) {
-        Slot::Present(g.slots[n])
+        Some(g.slots[n])
     } else {
-        Slot::Absent
+        None
     }
 }
 
 // The same of the group at `at`: one slot is read without the others.
-pub fn checksum_slot_at(s: &[u8], at: usize, n: usize) -> Slot
+pub fn checksum_slot_at(s: &[u8], at: usize, n: usize) -> Option<u32>
     requires group_bytes_in_bounds { at + group_bytes ≤ length s.now }
     requires n_lt_group_units { n < group_units }
     ensures { crc_of result ≡ checksum_slot (decode_group (part at group_bytes s.now)) n }
 {
     if bit_at(s[at + PRESENCE_AT + n / 8], n % 8) {
-        Slot::Present(words::le32(s, at + SLOTS_AT + SLOT_BYTES * n))
+        Some(words::le32(s, at + SLOTS_AT + SLOT_BYTES * n))
     } else {
-        Slot::Absent
+        None
     }
 }
 
@@ -114,13 +107,13 @@ fn without_slot(g: ChecksumGroup, n: usize) -> ChecksumGroup
 }
 
 // The group with slot `n` set, or cleared, by value.
-pub fn set_checksum_slot(g: ChecksumGroup, n: usize, slot: Slot) -> ChecksumGroup
+pub fn set_checksum_slot(g: ChecksumGroup, n: usize, slot: Option<u32>) -> ChecksumGroup
     requires { n < group_units }
     ensures { (object number : ℕ) → group_of object number result ≡ set_checksum_slot (group_of object number g) n (crc_of slot) }
 {
     match slot {
-        Slot::Present(crc) => with_slot(g, n, crc),
-        Slot::Absent => without_slot(g, n),
+        Some(crc) => with_slot(g, n, crc),
+        None => without_slot(g, n),
     }
 }
 

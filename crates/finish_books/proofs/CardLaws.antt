@@ -18,9 +18,8 @@ use Rattle.rules.proofs.ListLaws.{clash, find-passes, find-given}
 use Rattle.rules.proofs.BookLaws.{Whole, length-decode_book, get_or-decode_book}
 use Rattle.rules.proofs.CardLaws.{encode-decode_card, decode-encode_card, fits-decode_card, length-encode_card, spare-encode_card}
 use Rattle.rules.proofs.CardLaws as rules
-use Rattle.book.specs.Places.{record_at, found_in, place_of, card_is, FoundFirst}
-use Rattle.book.specs.declared.Found.{Found}
-use Rattle.book.specs.declared.Found.TheVariants.{At, Nothing}
+use Rattle.book.specs.Places.{record_at, found_in, card_is, FoundFirst}
+use Rattle.std.proofs.Common.{Option, Some, None}
 use Rattle.format.specs.declared.card.Card as struct
 use Rattle.format.specs.Records.{card_of, CardFits}
 use Rattle.format.proofs.RecordLaws.{fits_said}
@@ -28,20 +27,20 @@ use Rattle.finish_books.specs.Buffers.{CardsRight}
 use Rattle.finish_books.proofs.PutLaws.{put-book, map-one}
 
 -- the card that was found stands at its place among the first n, and is the object's
-pub card-found : (n object : ℕ) (s : List ℕ) (r : Found) (i : ℕ) → FoundFirst (card_is object) decode_card card_bytes n s r → r ≡ At i
+pub card-found : (n object : ℕ) (s : List ℕ) (r : Option ℕ) (i : ℕ) → FoundFirst (card_is object) decode_card card_bytes n s r → r ≡ Some i
     → (i < n) × (card_is object (record_at decode_card card_bytes s i) ≡ true)
-unfolding found_in place_of
+unfolding found_in
 card-found n object s r i h e = (
-  h.within i (ap place_of e),
+  h.within i e,
   find-passes (card_is object) (decode_book decode_card card_bytes n s) (record_at decode_card card_bytes s i) (sym h.found ∙ ap (found_in decode_card card_bytes s) e),
 )
 
 -- where the object has a card, it is found
-pub card-not-nothing : (n object : ℕ) (s : List ℕ) (r : Found) → FoundFirst (card_is object) decode_card card_bytes n s r → r ≡ Nothing
+pub card-not-nothing : (n object : ℕ) (s : List ℕ) (r : Option ℕ) → FoundFirst (card_is object) decode_card card_bytes n s r → r ≡ None
     → any (card_is object) (decode_book decode_card card_bytes n s) ≡ true → ⊥
 unfolding found_in given
 card-not-nothing n object s r h e a =
-    clash (sym (find-given (card_is object) (decode_book decode_card card_bytes n s)) ∙ sym (ap given h.found) ∙ ap (λ (f : Found). given (found_in decode_card card_bytes s f)) e) a
+    clash (sym (find-given (card_is object) (decode_book decode_card card_bytes n s)) ∙ sym (ap given h.found) ∙ ap (λ (f : Option ℕ). given (found_in decode_card card_bytes s f)) e) a
 
 -- cards ascend, and no two are of one object
 before-trans : (x y z : Card) → card_before x y ≡ true → card_before y z ≡ true → card_before x z ≡ true

@@ -18,45 +18,44 @@ use Rattle.rules.specs.Finish.{is_group, with_group, finished_groups}
 use Rattle.rules.proofs.ListLaws.{clash, test-cases, if-true, if-false, and_left, and_right, find-given, find-passes, length-insert}
 use Rattle.rules.proofs.BookLaws.{encode-whole, length-decode_book}
 use Rattle.rules.proofs.GroupLaws.{encode-decode_group}
-use Rattle.book.specs.Places.{record_at, found_in, place_of, group_is, FoundFirst}
-use Rattle.book.specs.declared.Found.{Found}
-use Rattle.book.specs.declared.Found.TheVariants.{At, Nothing}
+use Rattle.book.specs.Places.{record_at, found_in, group_is, FoundFirst}
+use Rattle.std.proofs.Common.{Option, Some, None}
 use Rattle.finish_books.specs.Groups.{groups_in, group_right, GroupsSay, AllThere, UnitsRight, StretchFrom, Gone, MissingOf, MissingFor, added, set_slots}
 use Rattle.finish_books.proofs.GroupListLaws.{with-there, with-missing, with-keeps, with-has, missing-still, slots_with, finished-slots, slots_length}
 
 -- ---- found or not
 
 -- the group that was found stands at its place among the first n, and has the key
-pub group-found : (n object number : ℕ) (s : List ℕ) (r : Found) (i : ℕ) → FoundFirst (group_is object number) decode_group group_bytes n s r → r ≡ At i
+pub group-found : (n object number : ℕ) (s : List ℕ) (r : Option ℕ) (i : ℕ) → FoundFirst (group_is object number) decode_group group_bytes n s r → r ≡ Some i
     → (i < n) × (group_is object number (record_at decode_group group_bytes s i) ≡ true)
-unfolding found_in place_of
+unfolding found_in
 group-found n object number s r i h e = (
-  h.within i (ap place_of e),
+  h.within i e,
   find-passes (group_is object number) (groups_in n s) (record_at decode_group group_bytes s i) (sym h.found ∙ ap (found_in decode_group group_bytes s) e),
 )
 
 -- a group is there where one was found
-found-there : (n object number : ℕ) (s : List ℕ) (r : Found) → FoundFirst (group_is object number) decode_group group_bytes n s r → any (group_is object number) (groups_in n s) ≡ given (found_in decode_group group_bytes s r)
+found-there : (n object number : ℕ) (s : List ℕ) (r : Option ℕ) → FoundFirst (group_is object number) decode_group group_bytes n s r → any (group_is object number) (groups_in n s) ≡ given (found_in decode_group group_bytes s r)
 found-there n object number s r h = sym (ap given h.found ∙ find-given (group_is object number) (groups_in n s))
 
 -- where it is there, one is found
-pub group-not-nothing : (n object number : ℕ) (s : List ℕ) (r : Found) → FoundFirst (group_is object number) decode_group group_bytes n s r → r ≡ Nothing → any (group_is object number) (groups_in n s) ≡ true → ⊥
+pub group-not-nothing : (n object number : ℕ) (s : List ℕ) (r : Option ℕ) → FoundFirst (group_is object number) decode_group group_bytes n s r → r ≡ None → any (group_is object number) (groups_in n s) ≡ true → ⊥
 unfolding found_in given
-group-not-nothing n object number s r h e a = clash (found-there n object number s r h ∙ ap (λ (f : Found). given (found_in decode_group group_bytes s f)) e) a
+group-not-nothing n object number s r h e a = clash (found-there n object number s r h ∙ ap (λ (f : Option ℕ). given (found_in decode_group group_bytes s f)) e) a
 
 -- found: it is not missing
-pub absent-no : (n object number : ℕ) (s : List ℕ) (r : Found) (i : ℕ) → FoundFirst (group_is object number) decode_group group_bytes n s r → r ≡ At i
+pub absent-no : (n object number : ℕ) (s : List ℕ) (r : Option ℕ) (i : ℕ) → FoundFirst (group_is object number) decode_group group_bytes n s r → r ≡ Some i
     → ◌≡◌ {A = ℕ} 0 (pick any (group_is object number) (groups_in n s) then 0 else 1)
 unfolding found_in given
 absent-no n object number s r i h e =
-    sym (if-true (any (group_is object number) (groups_in n s)) 0 1 (found-there n object number s r h ∙ ap (λ (f : Found). given (found_in decode_group group_bytes s f)) e))
+    sym (if-true (any (group_is object number) (groups_in n s)) 0 1 (found-there n object number s r h ∙ ap (λ (f : Option ℕ). given (found_in decode_group group_bytes s f)) e))
 
 -- not found: it is
-pub absent-yes : (n object number : ℕ) (s : List ℕ) (r : Found) → FoundFirst (group_is object number) decode_group group_bytes n s r → r ≡ Nothing
+pub absent-yes : (n object number : ℕ) (s : List ℕ) (r : Option ℕ) → FoundFirst (group_is object number) decode_group group_bytes n s r → r ≡ None
     → ◌≡◌ {A = ℕ} 1 (pick any (group_is object number) (groups_in n s) then 0 else 1)
 unfolding found_in given
 absent-yes n object number s r h e =
-    sym (if-false (any (group_is object number) (groups_in n s)) 0 1 (found-there n object number s r h ∙ ap (λ (f : Found). given (found_in decode_group group_bytes s f)) e))
+    sym (if-false (any (group_is object number) (groups_in n s)) 0 1 (found-there n object number s r h ∙ ap (λ (f : Option ℕ). given (found_in decode_group group_bytes s f)) e))
 
 -- at most one
 pub absent-most : (b : Bool) (x : ℕ) → x ≡ (pick b then 0 else 1) → x ≤ 1

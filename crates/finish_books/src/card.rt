@@ -9,7 +9,6 @@ ghost use Rattle.rules.specs.Finish.{changed_card, finished_cards};
 ghost use Rattle.book.specs.Places.{record_at, card_is};
 ghost use Rattle.finish_books.specs.Buffers.{CardsRight};
 
-use book::Found;
 use format::card::CARD_BYTES;
 
 // The card at place `i` with a new size, count and time, written over the old one: what a change leaves as it is comes from the book.
@@ -46,7 +45,7 @@ pub fn finish_card(
     ensures { (c : Change) → c.object ≡ object → c.new_size ≡ size → cards.new ≡ encode_book encode_card (length cards.old) (finished_cards c allocated (record { seconds = seconds; nanoseconds = nanoseconds }) (decode_book decode_card card_bytes n cards.old)) }
 {
     let found = book::find::find_card(cards, n, object);
-    if let Found::At(i) = found {
+    if let Some(i) = found {
         change_card(cards, i, size, allocated, seconds, nanoseconds);
     }
 }

@@ -14,7 +14,6 @@ ghost use Rattle.rules.specs.Finish.{finished_groups};
 ghost use Rattle.book.specs.Places.{record_at, group_is};
 ghost use Rattle.finish_books.specs.Groups.{groups_in, group_right, GroupsRight, GroupsSay, AllThere, UnitsRight, StretchFrom, Gone, MissingOf, MissingFor, PlaceKnown, added, set_slots};
 
-use book::Found;
 use checksum_group::{GROUP_BYTES, PRESENCE_AT, SLOT_BYTES, SLOTS_AT};
 use format::sizes::GROUP_UNITS;
 
@@ -92,8 +91,8 @@ fn place_of(groups: &[u8], n: usize, object: u64, wanted: u64, number: u64, plac
         }
     }
     match book::find::find_group(groups, n, object, wanted) {
-        Found::At(i) => i,
-        Found::Nothing => 0,
+        Some(i) => i,
+        None => 0,
     }
 }
 
@@ -141,7 +140,7 @@ fn absent(groups: &[u8], n: usize, object: u64, number: u64) -> usize
     ensures { result ≡ (pick any (group_is object number) (groups_in n groups.now) then 0 else 1) }
 {
     let found = book::find::find_group(groups, n, object, number);
-    if let Found::At(_) = found {
+    if let Some(_) = found {
         return 0;
     }
     1

@@ -22,8 +22,7 @@ use Rattle.format.specs.Records.{extent_of}
 use Rattle.held.specs.Held.{no_extent, OnDevice, HeldRight, entry_through, or_else, held_entry, Mapped}
 use Rattle.halving.specs.Halving.{Parted}
 use Rattle.halving.specs.Keys.{reaches}
-use Rattle.book.specs.declared.Found.{Found}
-use Rattle.book.specs.declared.Found.TheVariants.{At, Nothing}
+use Rattle.std.proofs.Common.{Option, Some, None}
 use Rattle.book.specs.Places.{record_at, extent_reached, reached_at, SearchedBook}
 use Rattle.book.proofs.HalvesLaws.{up-to-reached, reached-cases, searched-own, searched-other}
 use Rattle.mapping.specs.Entries.{entry_of, entries, extents_in, ExtentsRight}
@@ -80,7 +79,7 @@ lower-lies : (object block : ℕ) (e : Extent) → e.object < object → lies_be
 unfolding lies_before
 lower-lies object block e l = or_left (ltb e.object object) (eqb e.object object && leb (extent_end e) block) (lt-ltb e.object object l)
 
-module _ {m n : ℕ} {s : List ℕ} (r : ExtentsRight m n s) {object block : ℕ} {found : Found} {place rounds : ℕ}
+module _ {m n : ℕ} {s : List ℕ} (r : ExtentsRight m n s) {object block : ℕ} {found : Option ℕ} {place rounds : ℕ}
     (d : ascending extent_before (extents_in n s) ≡ true → Parted (reached_at object block s) n place) (b : SearchedBook object block n s found place rounds) where
   -- from the place on no extent lies before the block
   none-lies : (j : ℕ) → place ≤ j → j < n → lies_before object block (record_at decode_extent extent_bytes s j) ≡ false
@@ -89,7 +88,7 @@ module _ {m n : ℕ} {s : List ℕ} (r : ExtentsRight m n s) {object block : ℕ
       (λ t. absurd (clash ((d r.order).behind j l k) (lies-reached object block (record_at decode_extent extent_bytes s j) t))) (λ t. t)
 
   -- where none was found all in front of it do
-  pub stretch-none : found ≡ Nothing → StretchFrom object block n s place
+  pub stretch-none : found ≡ None → StretchFrom object block n s place
   stretch-none e = record { most = (d r.order).most; front = λ j l. front j l; behind = none-lies }
     where
       front : (j : ℕ) → j < place → lies_before object block (record_at decode_extent extent_bytes s j) ≡ true
@@ -100,7 +99,7 @@ module _ {m n : ℕ} {s : List ℕ} (r : ExtentsRight m n s) {object block : ℕ
           (λ q. lower-lies object block (record_at decode_extent extent_bytes s k) q)
           (λ q _. absurd (searched-other b e (omega arith) q))) j (omega arith)
 
-  module _ (i : ℕ) (e : found ≡ At i) where
+  module _ (i : ℕ) (e : found ≡ Some i) where
     -- the floor is one of the book
     pub floor-within : i < n
     floor-within = let q = (searched-own b i e).0 in omega (arith, (d r.order).most)

@@ -15,12 +15,9 @@ use Rattle.rules.specs.Bytes.{part}
 use Rattle.rules.specs.Group.{Group, group_bytes, decode_group, checksum_slot}
 use Rattle.rules.specs.Book.{decode_book}
 use Rattle.rules.specs.Finish.{is_group}
-use Rattle.checksum_group.specs.declared.Slot.{Slot}
-use Rattle.checksum_group.specs.declared.Slot.TheVariants.{Present, Absent}
 use Rattle.checksum_group.specs.Slots.{crc_of}
-use Rattle.book.specs.declared.Found.{Found}
-use Rattle.book.specs.declared.Found.TheVariants.{At, Nothing}
-use Rattle.book.specs.Places.{record_at, found_in, place_of, FoundFirst, group_is}
+use Rattle.std.proofs.Common.{Option, Some, None}
+use Rattle.book.specs.Places.{record_at, found_in, FoundFirst, group_is}
 use Rattle.mapping.specs.Entries.{entry_of, entries, slot_of}
 use Rattle.mapping.specs.Slots.{slot_in, GroupWithin}
 use Rattle.mapping.proofs.EntryLaws.{Filled, filled_none, filled_more, filled-all}
@@ -28,39 +25,38 @@ use Rattle.mapping.proofs.EntryLaws.{Filled, filled_none, filled_more, filled-al
 -- ---- one slot
 
 -- a checksum
-pub slot-present : (crc r : ℕ) → r ≡ crc + 1 → crc < 2 ^ 32 → (entry_of r ≡ crc_of (Present crc)) × (r ≤ 2 ^ 32)
+pub slot-present : (crc r : ℕ) → r ≡ crc + 1 → crc < 2 ^ 32 → (entry_of r ≡ crc_of (Some crc)) × (r ≤ 2 ^ 32)
 unfolding entry_of crc_of
 slot-present crc r e l = let q : r ≡ suc crc = omega arith in (rw q refl, omega arith)
 
 -- none
-pub slot-absent : (entry_of 0 ≡ crc_of Absent) × (0 ≤ 2 ^ 32)
+pub slot-absent : (entry_of 0 ≡ crc_of None) × (0 ≤ 2 ^ 32)
 unfolding entry_of crc_of
 slot-absent = (refl, omega arith)
 
 -- a slot of the group at the place found
-pub group_at : (s : List ℕ) (i k : ℕ) (slot : Slot) (r : ℕ) → crc_of slot ≡ checksum_slot (decode_group (part (group_bytes * i) group_bytes s)) k
-    → (entry_of r ≡ crc_of slot) × (r ≤ 2 ^ 32) → (entry_of r ≡ slot_in (found_in decode_group group_bytes s (At i)) k) × (r ≤ 2 ^ 32)
+pub group_at : (s : List ℕ) (i k : ℕ) (slot : Option ℕ) (r : ℕ) → crc_of slot ≡ checksum_slot (decode_group (part (group_bytes * i) group_bytes s)) k
+    → (entry_of r ≡ crc_of slot) × (r ≤ 2 ^ 32) → (entry_of r ≡ slot_in (found_in decode_group group_bytes s (Some i)) k) × (r ≤ 2 ^ 32)
 unfolding slot_in found_in record_at maybe
 group_at s i k slot r e h = (h.0 ∙ e, h.1)
 
 -- no group was found
-pub group-nothing : (s : List ℕ) (k : ℕ) → (entry_of 0 ≡ slot_in (found_in decode_group group_bytes s Nothing) k) × (0 ≤ 2 ^ 32)
+pub group-nothing : (s : List ℕ) (k : ℕ) → (entry_of 0 ≡ slot_in (found_in decode_group group_bytes s None) k) × (0 ≤ 2 ^ 32)
 unfolding slot_in found_in maybe entry_of
 group-nothing s k = (refl, omega arith)
 
 -- the place found lies in the book
-pub place-within : (s : List ℕ) (r : Found) (i : ℕ) → r ≡ At i → GroupWithin s r → group_bytes * i + group_bytes ≤ length s
-unfolding place_of
-place-within s r i q w = w.each i (rw q refl)
+pub place-within : (s : List ℕ) (r : Option ℕ) (i : ℕ) → r ≡ Some i → GroupWithin s r → group_bytes * i + group_bytes ≤ length s
+place-within s r i q w = w.each i q
 
 -- ---- the search
 
 -- a group that was found lies in the bytes of n groups
-pub found_within : {f : Group → Bool} {n : ℕ} {s : List ℕ} {r : Found} → FoundFirst f decode_group group_bytes n s r → group_bytes * n ≤ length s → GroupWithin s r
+pub found_within : {f : Group → Bool} {n : ℕ} {s : List ℕ} {r : Option ℕ} → FoundFirst f decode_group group_bytes n s r → group_bytes * n ≤ length s → GroupWithin s r
 found_within {n = n} f l = record { each = λ i q. let k : i < n = f.within i q in omega arith }
 
 -- the group in hand is that of the same number
-pub found-same : (object last number n : ℕ) (s : List ℕ) (r : Found) → number ≡ last → FoundFirst (group_is object last) decode_group group_bytes n s r → FoundFirst (group_is object number) decode_group group_bytes n s r
+pub found-same : (object last number n : ℕ) (s : List ℕ) (r : Option ℕ) → number ≡ last → FoundFirst (group_is object last) decode_group group_bytes n s r → FoundFirst (group_is object number) decode_group group_bytes n s r
 found-same object last number n s r q f = rw q f
 
 -- ---- the entries
@@ -77,7 +73,7 @@ module _ (n object first : ℕ) (s xs : List ℕ) where
 
   module _ (i : ℕ) (h : Slotted n object first s xs i) where
     -- one more
-    pub slotted-more : (x : ℕ) (r : Found) → i < length xs → FoundFirst (group_is object ((first + i) / group_units)) decode_group group_bytes n s r
+    pub slotted-more : (x : ℕ) (r : Option ℕ) → i < length xs → FoundFirst (group_is object ((first + i) / group_units)) decode_group group_bytes n s r
         → (entry_of x ≡ slot_in (found_in decode_group group_bytes s r) ((first + i) % group_units)) × (x ≤ 2 ^ 32) → Slotted n object first s (set xs i x) (i + 1)
     unfolding slot_in slot_of is_group
     slotted-more x r l f e = record {

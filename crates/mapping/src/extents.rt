@@ -9,7 +9,6 @@ ghost use Rattle.book.specs.Places.{record_at};
 ghost use Rattle.mapping.specs.Entries.{entries, extents_in, ExtentsRight};
 ghost use Rattle.mapping.specs.Held.{most_stretch, lies_before, starts_before, StretchFrom, RoomAhead, HeldAhead};
 
-use book::Found;
 use format::extent::{EXTENT_BYTES, Extent};
 use held::MOST_STRETCH;
 
@@ -39,7 +38,7 @@ fn first_from(s: &[u8], n: usize, object: u64, block: u64) -> usize
 {
     let r = book::find::search_extent(s, n, object, block);
     let found = r.found;
-    if let Found::At(i) = found {
+    if let Some(i) = found {
         if !lies_before(s, i, object, block) {
             return i;
         }

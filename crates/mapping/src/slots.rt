@@ -10,37 +10,43 @@ ghost use Rattle.book.specs.Places.{found_in, FoundFirst, group_is};
 ghost use Rattle.mapping.specs.Entries.{entry_of, entries, slot_of};
 ghost use Rattle.mapping.specs.Slots.{slot_in, GroupWithin};
 
-use book::Found;
-use checksum_group::{GROUP_BYTES, Slot};
+use checksum_group::GROUP_BYTES;
 use format::sizes::GROUP_UNITS;
 
 // Units of a group, counted as units are.
 const UNITS: u64 = GROUP_UNITS as u64;
 
 // The entry of what stands in a slot.
-fn slot_entry(slot: Slot) -> u64
+fn slot_entry(slot: Option<u32>) -> u64
     ensures { (entry_of result ≡ crc_of slot) × (result ≤ 2 ^ 32) }
 {
     match slot {
-        Slot::Present(crc) => crc as u64 + 1,
-        Slot::Absent => 0,
+        Some(crc) => crc as u64 + 1,
+        None => 0,
     }
 }
 
 // The entry of slot `k` of the group that was found, or 0 where none was.
-fn group_entry(groups: &[u8], found: Found, k: usize) -> u64
+fn group_entry(groups: &[u8], found: Option<usize>, k: usize) -> u64
     requires group_within { GroupWithin groups.now found }
     requires k_lt_group_units { k < group_units }
     ensures { (entry_of result ≡ slot_in (found_in decode_group group_bytes groups.now found) k) × (result ≤ 2 ^ 32) }
 {
     match found {
-        Found::At(i) => slot_entry(checksum_group::checksum_slot_at(groups, GROUP_BYTES * i, k)),
-        Found::Nothing => 0,
+        Some(i) => slot_entry(checksum_group::checksum_slot_at(groups, GROUP_BYTES * i, k)),
+        None => 0,
     }
 }
 
 // The group with this number: the one in hand where its number is `last`'s, and else searched.
-fn group_of(groups: &[u8], n: usize, object: u64, last: u64, found: Found, number: u64) -> Found
+fn group_of(
+    groups: &[u8],
+    n: usize,
+    object: u64,
+    last: u64,
+    found: Option<usize>,
+    number: u64,
+) -> Option<usize>
     requires n_in_bounds { group_bytes * n ≤ length groups.now }
     requires found_first { FoundFirst (group_is object last) decode_group group_bytes n groups.now found }
     ensures { FoundFirst (group_is object number) decode_group group_bytes n groups.now result }

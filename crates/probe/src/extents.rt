@@ -3,7 +3,6 @@ ghost use Rattle.std.specs.Prelude.{◌*◌, ◌≤◌, length};
 ghost use Rattle.rules.specs.Sizes.{most_places};
 ghost use Rattle.rules.specs.Extent.{extent_bytes};
 
-use book::Found;
 use format::extent::EXTENT_BYTES;
 
 // The most extents that a book may have.
@@ -67,7 +66,7 @@ pub extern "C" fn sangueko_probe_floor_extent(
     block: u64,
 ) -> usize {
     let found = book::find::floor_extent(book, extents_of(book, n), object, block);
-    if let Found::At(i) = found {
+    if let Some(i) = found {
         if i < MOST_PLACES {
             return i + 1;
         }

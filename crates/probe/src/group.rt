@@ -1,6 +1,6 @@
 // Checksum groups, for tests: a record of 1,073 bytes through the struct in hand. A record of another length, or a slot past the last, changes nothing
 // and answers as an absent slot does.
-use checksum_group::{GROUP_BYTES, Slot};
+use checksum_group::GROUP_BYTES;
 use format::sizes::GROUP_UNITS;
 
 // The length that `compact_group` keeps of a group's value.
@@ -23,17 +23,17 @@ pub extern "C" fn sangueko_probe_checksum_slot(group: &[u8], n: usize) -> u64 {
     }
     let slot = checksum_group::checksum_slot_at(group, 0, n);
     match slot {
-        Slot::Present(crc) => crc as u64,
-        Slot::Absent => 0x1_0000_0000,
+        Some(crc) => crc as u64,
+        None => 0x1_0000_0000,
     }
 }
 
 // What a caller says of a slot: a checksum, or anything above 32 bits for none.
-fn slot_of(crc: u64) -> Slot {
+fn slot_of(crc: u64) -> Option<u32> {
     if crc < 0x1_0000_0000 {
-        return Slot::Present(crc as u32);
+        return Some(crc as u32);
     }
-    Slot::Absent
+    None
 }
 
 // Slot `n` set, or cleared.

@@ -20,9 +20,8 @@ use Rattle.rules.specs.Read.{read_length}
 use Rattle.rules.proofs.ListLaws.{if-true, if-false, maybe-some, maybe-none}
 use Rattle.format.specs.declared.head.Head as struct
 use Rattle.format.specs.Records.{head_of}
-use Rattle.book.specs.declared.Found.{Found}
-use Rattle.book.specs.declared.Found.TheVariants.{At, Nothing}
-use Rattle.book.specs.Places.{record_at, found_in, place_of, FoundFirst, card_is}
+use Rattle.std.proofs.Common.{Option, Some, None}
+use Rattle.book.specs.Places.{record_at, found_in, FoundFirst, card_is}
 use Rattle.read.specs.Range.{Readable}
 use Rattle.read.specs.Gives.{gives, gives_checked, checked_units, gives_sized, gives_read}
 
@@ -68,24 +67,23 @@ module _ (head : List ℕ) (h : struct.Head) (d : head_of h ≡ decode_head head
       let y : h.groups ≡ (decode_head head).groups = ap (λ (k : Head). k.groups) d in
       rw (x, y) r
 
-  module _ (cards : List ℕ) (object : ℕ) (f : Found) (k : FoundFirst (card_is object) decode_card card_bytes h.cards cards f) where
+  module _ (cards : List ℕ) (object : ℕ) (f : Option ℕ) (k : FoundFirst (card_is object) decode_card card_bytes h.cards cards f) where
     -- a card that was found stands among those that the head counts
-    pub card-within : (i : ℕ) → f ≡ At i → card_bytes * (decode_head head).cards ≤ length cards → card_bytes * i + card_bytes ≤ length cards
-    unfolding place_of
+    pub card-within : (i : ℕ) → f ≡ Some i → card_bytes * (decode_head head).cards ≤ length cards → card_bytes * i + card_bytes ≤ length cards
     card-within i q l =
-        let w : i < h.cards = k.within i (ap place_of q) in
+        let w : i < h.cards = k.within i q in
         omega (arith, w, l, head-cards)
 
     module _ (image extents groups : List ℕ) (offset : ℕ) (out : List ℕ) where
       -- none is found
-      pub read_none : f ≡ Nothing → gives 3 0 out ≡ gives_read image head cards extents groups object offset out
+      pub read_none : f ≡ None → gives 3 0 out ≡ gives_read image head cards extents groups object offset out
       unfolding gives_read found_in number_of head_of
       read_none q =
           let z : none ≡ find (card_is object) (decode_book decode_card card_bytes (decode_head head).cards cards) = rw (q, head-cards) at k.found in
           sym (maybe-none _ _ _ (sym z))
 
       -- one is
-      pub read_some : (i size number count : ℕ) (filled : List ℕ) → f ≡ At i → size ≡ (decode_card (part (card_bytes * i) card_bytes cards)).size
+      pub read_some : (i size number count : ℕ) (filled : List ℕ) → f ≡ Some i → size ≡ (decode_card (part (card_bytes * i) card_bytes cards)).size
           → gives number count filled ≡ gives_sized image h.uuid extents groups h.extents h.groups object offset out size
           → gives number count filled ≡ gives_read image head cards extents groups object offset out
       unfolding gives_read found_in record_at head_of

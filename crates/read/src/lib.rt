@@ -17,7 +17,6 @@ ghost use Rattle.inspect.specs.Mapped.{check_mapped};
 ghost use Rattle.read.specs.Range.{Readable, checked_range};
 ghost use Rattle.read.specs.Gives.{gives, gives_checked, checked_units, gives_sized, gives_read, ReadReady};
 
-use book::Found;
 use format::card::CARD_BYTES;
 use format::sizes::{UNIT_BLOCKS, UNIT_BYTES};
 
@@ -263,7 +262,7 @@ pub fn read_file(
     let h = format::head::decode_head(head);
     let uuid = h.uuid;
     match book::find::find_card(cards, h.cards as usize, object) {
-        Found::At(i) => {
+        Some(i) => {
             let size = format::card::card_size(cards, CARD_BYTES * i);
             read_sized(
                 image,
@@ -278,7 +277,7 @@ pub fn read_file(
                 out,
             )
         }
-        Found::Nothing => Given {
+        None => Given {
             number: 3,
             count: 0,
         },

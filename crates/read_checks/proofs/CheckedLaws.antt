@@ -3,7 +3,8 @@
 use mathlib.Core.Path.{◌≡◌, refl, sym, ap, ◌∙◌}
 use mathlib.Core.Bool.{true, false, ◌||◌}
 use mathlib.Core.List.{List, ◌++◌, map, flat_map}
-use mathlib.Core.Option.{Option, none}
+use mathlib.Core.Option as maybe
+use mathlib.Core.Option.{none}
 use Prim.Native.Nat.{ℕ, zero, suc, ◌+◌, ◌-◌, ◌*◌, ◌/◌, ◌≤◌, ◌<◌}
 use native.Mathlib.Decide.{ℕ_discrete}
 use native.Mathlib.Omega.{arith}
@@ -23,9 +24,8 @@ use Rattle.rules.proofs.CountLaws.{member-each, flat_map-each, each-range}
 use Rattle.triples.specs.declared.Triple as struct
 use Rattle.triples.specs.Triple.{triple_of, triple_at, triples_from}
 use Rattle.triples.proofs.TripleLaws.{from_start, from-here, from_end}
-use Rattle.book.specs.declared.Found.{Found}
-use Rattle.book.specs.declared.Found.TheVariants.{At, Nothing}
-use Rattle.book.specs.Places.{record_at, found_in, place_of, FoundFirst, card_is}
+use Rattle.std.proofs.Common.{Option, Some, None}
+use Rattle.book.specs.Places.{record_at, found_in, FoundFirst, card_is}
 use Rattle.read_checks.specs.Reads.{Looked, first_number, unit_number, units_read, pairs_read, sized_number, card_in, read_number, pairs_touched, pair_is, pairs_before, new_units, SizeIs}
 use Rattle.read_checks.specs.Checked.{Earlier, ReadChecked, ListChecked}
 use Rattle.read_checks.proofs.PairLaws.{pair-among, pair-other, different-read}
@@ -79,7 +79,7 @@ sized-right b t size z = first-all (unit_number b t.object size) (units_read t s
 -- two reads of one file find the same size
 same_size : (head cards : List ℕ) (t u : Triple) (m n : ℕ) → t.object ≡ u.object → SizeIs head cards t m → SizeIs head cards u n → m ≡ n
 same_size head cards t u m n e s r =
-    let size_of : Option Card → ℕ = maybe 0 (λ c. c.size) in
+    let size_of : maybe.Option Card → ℕ = maybe 0 (λ c. c.size) in
     let a : size_of (card_in head cards t.object) ≡ s.card.size = maybe-some _ _ _ s.card s.found in
     let c : size_of (card_in head cards u.object) ≡ r.card.size = maybe-some _ _ _ r.card r.found in
     s.size ∙ sym a ∙ ap (λ (o : ℕ). size_of (card_in head cards o)) e ∙ c ∙ sym r.size
@@ -101,7 +101,7 @@ earlier-right b cards list sizes i size e s u h =
 
 -- ---- a read's card
 
-module _ (head cards list : List ℕ) (n i : ℕ) (d : n ≡ (decode_head head).cards) (x : struct.Triple) (q : triple_of x ≡ triple_at list i) (f : Found) (k : FoundFirst (card_is x.object) decode_card card_bytes n cards f) where
+module _ (head cards list : List ℕ) (n i : ℕ) (d : n ≡ (decode_head head).cards) (x : struct.Triple) (q : triple_of x ≡ triple_at list i) (f : Option ℕ) (k : FoundFirst (card_is x.object) decode_card card_bytes n cards f) where
   -- the cards that were searched are those that the head counts
   searched : found_in decode_card card_bytes cards f ≡ card_in head cards (triple_at list i).object
   unfolding card_in triple_of
@@ -111,19 +111,18 @@ module _ (head cards list : List ℕ) (n i : ℕ) (d : n ≡ (decode_head head).
       ∙ ap (λ (y : ℕ). find (λ c. eqb c.object y) (decode_book decode_card card_bytes (decode_head head).cards cards)) o
 
   -- the card that was found stands among them
-  pub card-there : (c : ℕ) → f ≡ At c → card_bytes * (decode_head head).cards ≤ length cards → card_bytes * c + card_bytes ≤ length cards
-  unfolding place_of
+  pub card-there : (c : ℕ) → f ≡ Some c → card_bytes * (decode_head head).cards ≤ length cards → card_bytes * c + card_bytes ≤ length cards
   card-there c e l =
-      let w : c < n = k.within c (ap place_of e) in
+      let w : c < n = k.within c e in
       omega (arith, w, l, d)
 
   -- its size is that of the read's file
-  pub size-found : (c size : ℕ) → f ≡ At c → size ≡ (decode_card (part (card_bytes * c) card_bytes cards)).size → SizeIs head cards (triple_at list i) size
+  pub size-found : (c size : ℕ) → f ≡ Some c → size ≡ (decode_card (part (card_bytes * c) card_bytes cards)).size → SizeIs head cards (triple_at list i) size
   unfolding found_in record_at
   size-found c size e s = record { card = decode_card (part (card_bytes * c) card_bytes cards); found = sym searched ∙ ap (found_in decode_card card_bytes cards) e; size = s }
 
   -- none is found: refusal 3
-  pub number-none : (b : Looked) → b.head ≡ head → f ≡ Nothing → 3 ≡ read_number b cards (triple_at list i)
+  pub number-none : (b : Looked) → b.head ≡ head → f ≡ None → 3 ≡ read_number b cards (triple_at list i)
   unfolding read_number found_in number_of
   number-none b h e =
       let z : card_in b.head cards (triple_at list i).object ≡ none = ap (λ (y : List ℕ). card_in y cards (triple_at list i).object) h ∙ sym searched ∙ ap (found_in decode_card card_bytes cards) e in

@@ -17,7 +17,6 @@ ghost use Rattle.triples.specs.Triple.{triple_at};
 ghost use Rattle.read_checks.specs.Reads.{looked, first_number, unit_number, units_read, pairs_read, sized_number, pair_is, pairs_before, new_units};
 ghost use Rattle.read_checks.specs.Checked.{Earlier, ReadChecked, ListChecked};
 
-use book::Found;
 use format::card::CARD_BYTES;
 use format::sizes::{UNIT_BLOCKS, UNIT_BYTES};
 use triples::{MOST_TRIPLES, TRIPLE_BYTES};
@@ -271,7 +270,7 @@ fn check_read(
 {
     let x = triples::triple_at(list, i);
     match book::find::find_card(cards, n, x.object) {
-        Found::At(c) => {
+        Some(c) => {
             let size = format::card::card_size(cards, CARD_BYTES * c);
             let r = check_sized(
                 t, w, image, head, extents, groups, list, sizes, i, size, made,
@@ -279,7 +278,7 @@ fn check_read(
             sizes[i] = size;
             r
         }
-        Found::Nothing => Checks { number: 3, made },
+        None => Checks { number: 3, made },
     }
 }
 

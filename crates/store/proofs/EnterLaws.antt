@@ -24,8 +24,7 @@ use Rattle.rules.proofs.EnterLaws.{new-fits}
 use Rattle.rules.proofs.CardLaws.{encode-decode_card, decode-encode_card, length-encode_card, spare-encode_card}
 use Rattle.words.proofs.NumberLaws.{patch-whole}
 use Rattle.book.specs.Places.{found_in, leading, card_is, card_under, FoundFirst, Spliced}
-use Rattle.book.specs.declared.Found.{Found}
-use Rattle.book.specs.declared.Found.TheVariants.{At, Nothing}
+use Rattle.std.proofs.Common.{Option, Some, None}
 use Rattle.book.proofs.InsertLaws.{insert-leading, spliced-book}
 use Rattle.format.specs.declared.card.Card as struct
 use Rattle.format.specs.declared.head.Head as head
@@ -52,23 +51,23 @@ module _ (cs : List Card) (places object : ℕ) (time : Time) where
   number-8 g t b e = sym (if-false (given (find (card_is object) cs)) 4 _ g ∙ if-false (time_wrong time) 7 _ t ∙ ap (λ (c : Bool). pick c then 8 else 0) e)
 
 -- a card that was found
-found-given : (n object : ℕ) (s : List ℕ) (r : Found) (i : ℕ) → FoundFirst (card_is object) decode_card card_bytes n s r → r ≡ At i
+found-given : (n object : ℕ) (s : List ℕ) (r : Option ℕ) (i : ℕ) → FoundFirst (card_is object) decode_card card_bytes n s r → r ≡ Some i
     → given (find (card_is object) (decode_book decode_card card_bytes n s)) ≡ true
 unfolding found_in given
-found-given n object s r i h e = sym (ap given h.found) ∙ ap (λ (f : Found). given (found_in decode_card card_bytes s f)) e
+found-given n object s r i h e = sym (ap given h.found) ∙ ap (λ (f : Option ℕ). given (found_in decode_card card_bytes s f)) e
 
 -- none
-nothing-given : (n object : ℕ) (s : List ℕ) (r : Found) → FoundFirst (card_is object) decode_card card_bytes n s r → r ≡ Nothing
+nothing-given : (n object : ℕ) (s : List ℕ) (r : Option ℕ) → FoundFirst (card_is object) decode_card card_bytes n s r → r ≡ None
     → given (find (card_is object) (decode_book decode_card card_bytes n s)) ≡ false
 unfolding found_in given
-nothing-given n object s r h e = sym (ap given h.found) ∙ ap (λ (f : Found). given (found_in decode_card card_bytes s f)) e
+nothing-given n object s r h e = sym (ap given h.found) ∙ ap (λ (f : Option ℕ). given (found_in decode_card card_bytes s f)) e
 
-module _ (n object : ℕ) (s : List ℕ) (time : Time) (f : Found) (h : FoundFirst (card_is object) decode_card card_bytes n s f) where
+module _ (n object : ℕ) (s : List ℕ) (time : Time) (f : Option ℕ) (h : FoundFirst (card_is object) decode_card card_bytes n s f) where
   -- refusal 4
-  pub enter-4 : (i : ℕ) → f ≡ At i → 4 ≡ enter_number (decode_book decode_card card_bytes n s) (book_places card_bytes s) object time
+  pub enter-4 : (i : ℕ) → f ≡ Some i → 4 ≡ enter_number (decode_book decode_card card_bytes n s) (book_places card_bytes s) object time
   enter-4 i q = number-4 _ _ object time (found-given n object s f i h q)
 
-  module _ (q : f ≡ Nothing) where
+  module _ (q : f ≡ None) where
     -- refusal 7
     pub enter-7 : (r : Bool) → r ≡ time_wrong time → r ≡ true → 7 ≡ enter_number (decode_book decode_card card_bytes n s) (book_places card_bytes s) object time
     enter-7 r e t = number-7 _ _ object time (nothing-given n object s f h q) (sym e ∙ t)

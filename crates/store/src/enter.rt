@@ -9,7 +9,6 @@ ghost use Rattle.rules.specs.Enter.{new_card};
 ghost use Rattle.format.specs.Records.{card_of, CardFits};
 ghost use Rattle.store.specs.Buffers.{one_card_more, enter_number, CardsRight, EnterReady};
 
-use book::Found;
 use format::card::{CARD_BYTES, Card};
 use format::head::Head;
 
@@ -35,7 +34,7 @@ pub fn enter_refused(cards: &[u8], n: usize, object: u64, seconds: u64, nanoseco
     ensures { result ≡ enter_number (decode_book decode_card card_bytes n cards.now) (book_places card_bytes cards.now) object (record { seconds = seconds; nanoseconds = nanoseconds }) }
 {
     let found = book::find::find_card(cards, n, object);
-    if let Found::At(_) = found {
+    if let Some(_) = found {
         return 4;
     }
     if time_wrong(seconds, nanoseconds) {

@@ -27,8 +27,7 @@ use Rattle.rules.proofs.BookLaws.{length-flat_map}
 use Rattle.rules.proofs.StretchLaws.{length-encode_stretch}
 use Rattle.format.specs.declared.head.Head as struct
 use Rattle.format.specs.Records.{head_of}
-use Rattle.book.specs.declared.Found.{Found}
-use Rattle.book.specs.declared.Found.TheVariants.{At, Nothing}
+use Rattle.std.proofs.Common.{Option, Some, None}
 use Rattle.book.specs.Places.{record_at, found_in, FoundFirst, card_is}
 use Rattle.read.proofs.GivesLaws.{head-cards}
 use Rattle.presence.specs.Units.{GroupsRight, groups_in, slotted, stretch, stretches_from}
@@ -170,16 +169,16 @@ module _ (head : List ℕ) (h : struct.Head) (d : head_of h ≡ decode_head head
       let x : h.groups ≡ (decode_head head).groups = ap (λ (k : Head). k.groups) d in
       rw x r
 
-  module _ (cards : List ℕ) (object : ℕ) (f : Found) (k : FoundFirst (card_is object) decode_card card_bytes h.cards cards f) (groups : List ℕ) (first units : ℕ) (out : List ℕ) where
+  module _ (cards : List ℕ) (object : ℕ) (f : Option ℕ) (k : FoundFirst (card_is object) decode_card card_bytes h.cards cards f) (groups : List ℕ) (first units : ℕ) (out : List ℕ) where
     -- none is found
-    pub list-none : f ≡ Nothing → gives 3 0 out ≡ lists_object head cards groups object first units out
+    pub list-none : f ≡ None → gives 3 0 out ≡ lists_object head cards groups object first units out
     unfolding lists_object found_in number_of
     list-none q =
         let z : none ≡ find (card_is object) (decode_book decode_card card_bytes (decode_head head).cards cards) = rw (q, head-cards head h d) at k.found in
         sym (maybe-none _ _ _ (sym z))
 
     -- one is
-    pub list-some : (i size number count : ℕ) (filled : List ℕ) → f ≡ At i → size ≡ (decode_card (part (card_bytes * i) card_bytes cards)).size
+    pub list-some : (i size number count : ℕ) (filled : List ℕ) → f ≡ Some i → size ≡ (decode_card (part (card_bytes * i) card_bytes cards)).size
         → gives number count filled ≡ lists_file (groups_in h.groups groups) object first units out size
         → gives number count filled ≡ lists_object head cards groups object first units out
     unfolding lists_object found_in record_at head_of

@@ -14,7 +14,6 @@ ghost use Rattle.read.specs.Gives.{gives};
 ghost use Rattle.presence.specs.Units.{GroupsRight, groups_in, slotted, stretch, stretches_from};
 ghost use Rattle.stretches.specs.Lists.{lists_file, lists_object, ListReady};
 
-use book::Found;
 use format::card::CARD_BYTES;
 use format::sizes::UNIT_BYTES;
 use presence::Position;
@@ -146,11 +145,11 @@ pub fn data_stretches(
 {
     let h = format::head::decode_head(head);
     match book::find::find_card(cards, h.cards as usize, object) {
-        Found::At(i) => {
+        Some(i) => {
             let size = format::card::card_size(cards, CARD_BYTES * i);
             list_file(groups, h.groups as usize, object, size, first, units, out)
         }
-        Found::Nothing => Listed {
+        None => Listed {
             number: NO_CARD,
             count: 0,
         },

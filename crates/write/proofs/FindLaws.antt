@@ -19,9 +19,8 @@ use Rattle.rules.proofs.PassLaws.{passes-head, passes-room}
 use Rattle.format.specs.declared.head.Head as head
 use Rattle.format.specs.declared.card.Card as card
 use Rattle.format.specs.Records as records
-use Rattle.book.specs.declared.Found.{Found}
-use Rattle.book.specs.declared.Found.TheVariants.{At, Nothing}
-use Rattle.book.specs.Places.{record_at, found_in, place_of, FoundFirst, card_is}
+use Rattle.std.proofs.Common.{Option, Some, None}
+use Rattle.book.specs.Places.{record_at, found_in, FoundFirst, card_is}
 use Rattle.write.specs.Call.{CardThere, FileFound, StoreReady}
 
 -- ---- the code
@@ -32,23 +31,22 @@ module _ (bytes : List ℕ) (h : head.Head) (d : records.head_of h ≡ decode_he
   unfolding records.head_of
   head-cards = ap (λ (k : Head). k.cards) d
 
-  module _ (cards : List ℕ) (object : ℕ) (f : Found) (k : FoundFirst (card_is object) decode_card card_bytes h.cards cards f) where
+  module _ (cards : List ℕ) (object : ℕ) (f : Option ℕ) (k : FoundFirst (card_is object) decode_card card_bytes h.cards cards f) where
     -- a card that was found stands among those that the head counts
-    pub card-within : (i : ℕ) → f ≡ At i → card_bytes * (decode_head bytes).cards ≤ length cards → card_bytes * i + card_bytes ≤ length cards
-    unfolding place_of
+    pub card-within : (i : ℕ) → f ≡ Some i → card_bytes * (decode_head bytes).cards ≤ length cards → card_bytes * i + card_bytes ≤ length cards
     card-within i q l =
-        let w : i < h.cards = k.within i (ap place_of q) in
+        let w : i < h.cards = k.within i q in
         omega (arith, w, l, head-cards)
 
     -- none was found
-    pub file-none : f ≡ Nothing → FileFound bytes cards object false 0 0
+    pub file-none : f ≡ None → FileFound bytes cards object false 0 0
     unfolding found_in
     file-none q =
         let z : none ≡ find (card_is object) (decode_book decode_card card_bytes (decode_head bytes).cards cards) = rw (q, head-cards) at k.found in
         record { missing = λ e. sym z; there = λ e. absurd (false≢true e) }
 
     -- one was
-    pub file-some : (i : ℕ) (c : card.Card) → f ≡ At i → records.card_of c ≡ decode_card (part (card_bytes * i) card_bytes cards) → records.CardFits c
+    pub file-some : (i : ℕ) (c : card.Card) → f ≡ Some i → records.card_of c ≡ decode_card (part (card_bytes * i) card_bytes cards) → records.CardFits c
         → FileFound bytes cards object true c.size c.allocated
     unfolding found_in record_at records.card_of
     file-some i c q e w =

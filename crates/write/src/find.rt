@@ -4,7 +4,6 @@ ghost use Rattle.rules.specs.Head.{head_bytes, decode_head};
 ghost use Rattle.rules.specs.Card.{card_bytes};
 ghost use Rattle.write.specs.Call.{FileFound};
 
-use book::Found;
 use format::card::CARD_BYTES;
 
 // Whether there is such a file, and if so its size and the blocks that its card counts.
@@ -22,7 +21,7 @@ pub fn find_file(head: &[u8], cards: &[u8], object: u64) -> File
 {
     let h = format::head::decode_head(head);
     match book::find::find_card(cards, h.cards as usize, object) {
-        Found::At(i) => {
+        Some(i) => {
             let card = format::card::decode_card(cards, CARD_BYTES * i);
             File {
                 known: true,
@@ -30,7 +29,7 @@ pub fn find_file(head: &[u8], cards: &[u8], object: u64) -> File
                 allocated: card.allocated,
             }
         }
-        Found::Nothing => File {
+        None => File {
             known: false,
             size: 0,
             allocated: 0,

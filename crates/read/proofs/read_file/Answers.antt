@@ -8,16 +8,16 @@ pub find_card-requires : goal.find_card-requires
 find_card-requires c = omega (arith, c.requires.places, head-cards _ _ c.decode_head-h.ensures.0)
 
 pub overflow_mul-i : goal.overflow_mul-i
-overflow_mul-i c = let w = card-within _ _ c.decode_head-h.ensures.0 _ _ _ c.find_card.ensures _ c.in-At.is c.requires.places in omega (arith, w)
+overflow_mul-i c = let w = card-within _ _ c.decode_head-h.ensures.0 _ _ _ c.find_card.ensures _ c.in-Some.is c.requires.places in omega (arith, w)
 
 pub card_size-size-requires : goal.card_size-size-requires
-card_size-size-requires c = card-within _ _ c.decode_head-h.ensures.0 _ _ _ c.find_card.ensures _ c.in-At.is c.requires.places
+card_size-size-requires c = card-within _ _ c.decode_head-h.ensures.0 _ _ _ c.find_card.ensures _ c.in-Some.is c.requires.places
 
 pub read_sized-requires : goal.read_sized-requires
 read_sized-requires c = head-books _ _ c.decode_head-h.ensures.0 _ _ _ c.requires.books
 
-pub returns-in-At : goal.returns-in-At
-returns-in-At c = read_some _ _ c.decode_head-h.ensures.0 _ _ _ c.find_card.ensures _ _ _ _ _ _ _ _ _ _ c.in-At.is c.card_size-size.ensures.0 c.read_sized.ensures
+pub returns-in-Some : goal.returns-in-Some
+returns-in-Some c = read_some _ _ c.decode_head-h.ensures.0 _ _ _ c.find_card.ensures _ _ _ _ _ _ _ _ _ _ c.in-Some.is c.card_size-size.ensures.0 c.read_sized.ensures
 
-pub returns-in-Nothing : goal.returns-in-Nothing
-returns-in-Nothing c = read_none _ _ c.decode_head-h.ensures.0 _ _ _ c.find_card.ensures _ _ _ _ _ c.in-Nothing.is
+pub returns-in-None : goal.returns-in-None
+returns-in-None c = read_none _ _ c.decode_head-h.ensures.0 _ _ _ c.find_card.ensures _ _ _ _ _ c.in-None.is
