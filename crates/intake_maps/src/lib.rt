@@ -21,12 +21,12 @@ fn blocks_mappable(first: u64, count: u32, reserved: usize, used: &[u8], retired
     let n = count as usize;
     let e = a + n;
     if a < reserved {
-        return false;
+        false
+    } else if n <= 64 - a % 64 {
+        bitmap_pairs::only_in_word(used, retired, a, n)
+    } else {
+        bitmap_pairs::all_only(used, retired, a, e)
     }
-    if n <= 64 - a % 64 {
-        return bitmap_pairs::only_in_word(used, retired, a, n);
-    }
-    bitmap_pairs::all_only(used, retired, a, e)
 }
 
 // Whether the blocks of the extent at place `i` are.
@@ -53,34 +53,23 @@ pub fn extents_mappable(
     requires extents_value { all (placed (8 * length used.now)) (decode_book decode_extent extent_bytes n extents.now) ≡ true }
     ensures { result ≡ all (extent_mappable reserved used.now retired.now) (decode_book decode_extent extent_bytes n extents.now) }
 {
-    let mut i: usize = 0;
-    while i < n {
-        if !extent_mappable(extents, i, reserved, used, retired) {
-            return false;
-        }
-        i += 1;
-    }
-    true
+    (0..n).all(|i| extent_mappable(extents, i, reserved, used, retired))
 }
 
 // Whether the maps keep the rules that speak of no extent.
+#[tactic(auto, using(crate::proofs::MapLaws::maps_alone_is), unfolding(rules::specs::Map::map_bytes))]
 pub fn maps_alone(blocks: usize, reserved: usize, used: &[u8], retired: &[u8]) -> bool
     requires { MapsSized blocks reserved used.now retired.now }
     ensures { result ≡ maps_alone blocks reserved used.now retired.now }
 {
-    if !bitmap_pairs::clear_behind(used, blocks) {
-        return false;
-    }
-    if !bitmap_pairs::clear_behind(retired, blocks) {
-        return false;
-    }
-    if !bitmap_pairs::all_inside(used, retired) {
-        return false;
-    }
-    bitmap_pairs::all_only(used, retired, 0, reserved)
+    bitmap_pairs::clear_behind(used, blocks)
+        && bitmap_pairs::clear_behind(retired, blocks)
+        && bitmap_pairs::all_inside(used, retired)
+        && bitmap_pairs::all_only(used, retired, 0, reserved)
 }
 
 // Whether the maps break a rule: the first `n` extents have blocks, and they lie on the device.
+#[tactic(auto, using(crate::proofs::MapLaws::maps_right_is))]
 pub fn maps_broken(
     extents: &[u8],
     n: usize,
@@ -94,8 +83,6 @@ pub fn maps_broken(
     requires extents_value { all (placed blocks) (decode_book decode_extent extent_bytes n extents.now) ≡ true }
     ensures { result ≡ not (maps_right blocks reserved used.now retired.now (decode_book decode_extent extent_bytes n extents.now)) }
 {
-    if !maps_alone(blocks, reserved, used, retired) {
-        return true;
-    }
-    !extents_mappable(extents, n, reserved, used, retired)
+    !(maps_alone(blocks, reserved, used, retired)
+        && extents_mappable(extents, n, reserved, used, retired))
 }

@@ -1,5 +1,3 @@
--- `intake_maps::blocks_mappable` meets its contract.
--- Assumes nothing.
 use native.Mathlib.Omega.{arith}
 use Rattle.intake_maps.proofs.MapLaws.{first-reserved, none-reserved, none-reserved-to}
 use Rattle.intake_maps.proofs.blocks_mappable.Goals as goal
@@ -10,5 +8,5 @@ returns-then-a-reserved c = first-reserved _ _ _ _ _ (omega arith) c.if-a-reserv
 pub returns-then-n-a : goal.returns-then-n-a
 returns-then-n-a c = none-reserved _ _ _ _ _ _ c.if-a-reserved.false c.only_in_word.ensures
 
-pub returns : goal.returns
-returns c = none-reserved-to _ _ _ _ _ _ c.if-a-reserved.false c.all_only.ensures
+pub returns-else-n-a : goal.returns-else-n-a
+returns-else-n-a c = none-reserved-to _ _ _ _ _ _ c.if-a-reserved.false c.all_only.ensures
