@@ -5,7 +5,7 @@ use Rattle.rules.specs.Extent.{extent_bytes, decode_extent}
 use Rattle.book.specs.Places.{record_at}
 use Rattle.intake_maps.specs.MapTests.{extent_mappable}
 use Rattle.intake_maps.proofs.MapLaws.{book-at, book-tested}
-use Rattle.intake_maps.proofs.extents_mappable.Goals as goal
+use Rattle.intake_maps.proofs.Maps.extents_mappable.Goals as goal
 
 pub all-requires-clause-callable : goal.all-requires-clause-callable
 all-requires-clause-callable c =
@@ -13,6 +13,7 @@ all-requires-clause-callable c =
 
 pub returns : goal.returns
 returns c =
-    let test : ℕ → Bool = λ i. extent_mappable c.args.reserved c.args.used.now c.args.retired.now (record_at decode_extent extent_bytes c.args.extents.now i) in
+    let m = c.args.self.now in
+    let test : ℕ → Bool = λ i. extent_mappable m.reserved m.used.now m.retired.now (record_at decode_extent extent_bytes c.args.extents.now i) in
     book-tested (extent_mappable _ _ _) _ _ _ _ _
     (cases_from_all _ _ _ (λ i. test i ≡ true) (λ i. test i ≡ false) c.all.ensures.ran (YieldsList-from_range _ _ _ refl refl) (λ x q k. search (rules, tests)) (λ x q k. search (rules, tests)))
