@@ -1,12 +1,15 @@
 -- Laws of refusal 2's rules on the maps: over each extent of a book, over the maps alone, and what they are of the rules.
 -- Assumes nothing.
 use mathlib.Core.Path.{◌≡◌, refl, sym, ap, ◌∙◌}
-use mathlib.Core.Bool.{Bool, true, false, not, ◌&&◌, and-false, and-true}
+use mathlib.Core.Bool.{and_comm, Bool, true, false, not, ◌&&◌, and-false, and-true}
 use mathlib.Core.List.{List, []}
 use Prim.Native.Nat.{ℕ, ◌+◌, ◌-◌, ◌*◌, ◌≤◌, ◌<◌}
-use native.Mathlib.Nat.{add-zero}
+use native.Mathlib.Nat.{add-zero, zero-add}
+use Rattle.std.specs.Prelude.{MatchBool}
+use Rattle.std.specs.List.{AllWithin, HoldsAt, range_with_len}
+use Rattle.std.proofs.lemmas.List.FromFn.{length-range_with_len, get_or-range_with_len}
 use native.Mathlib.Omega.{arith}
-use borrow.Author.Tests.{ltb-true, leb-true, le-leb, lt-leb, not-true, not-false}
+use borrow.Author.Tests.{ltb-true, leb-true, le-leb, lt-leb}
 use lib.Dec.{leb, ltb}
 use lib.ListN.{length}
 use Rattle.rules.specs.Lists.{all, range}
@@ -21,7 +24,7 @@ use Rattle.rules.proofs.PassLaws.{all-and}
 use Rattle.bitmap_pairs.specs.Pair.{only, inside}
 use Rattle.bitmap_pairs.proofs.PairLaws.{same_tests, all_two}
 use Rattle.book.specs.Places.{record_at}
-use Rattle.book.proofs.SearchLaws.{Passes, record-at}
+use Rattle.book.proofs.SearchLaws.{record-at}
 use Rattle.intake_maps.specs.MapTests.{mappable, blocks_mappable, extent_mappable, maps_alone, maps_right, placed, Paired, MapsSized}
 
 -- ---- a test of each record of a book
@@ -33,17 +36,21 @@ module _ {A : Type 0} (f : A → Bool) (decode : List ℕ → A) (w : ℕ) (s : 
       let e : length (decode_book decode w n s) ≡ n = length-decode_book decode w n s in
       ap f (sym (record-at decode w s n i (decode []) l)) ∙ all-at f (decode_book decode w n s) h i (decode []) (omega arith)
 
-  -- it passes at all
-  pub book-all : (i : ℕ) → n ≤ i → Passes f decode w s i → true ≡ all f (decode_book decode w n s)
-  book-all i l h =
+  -- a walk over the places answers whether it passes at all
+  pub book-tested : (r : Bool)
+      → MatchBool r (AllWithin (λ i. f (record_at decode w s i) ≡ true) (range_with_len 0 (n - 0)) 0 (length (range_with_len 0 (n - 0))))
+      ((k : ℕ) × (k < length (range_with_len 0 (n - 0))) × HoldsAt (λ i. f (record_at decode w s i) ≡ false) (range_with_len 0 (n - 0)) k)
+      → r ≡ all f (decode_book decode w n s)
+  book-tested true t =
       let e : length (decode_book decode w n s) ≡ n = length-decode_book decode w n s in
-      sym (all_of f (decode_book decode w n s) (decode []) (λ j m. ap f (record-at decode w s n j (decode []) (omega arith)) ∙ h j (omega arith)))
-
-  -- it fails at one
-  pub book-not : (i : ℕ) (m : Bool) → i < n → m ≡ f (record_at decode w s i) → not m ≡ true → false ≡ all f (decode_book decode w n s)
-  book-not i m l e t =
-      test-cases (false ≡ all f (decode_book decode w n s)) (all f (decode_book decode w n s))
-      (λ h. absurd (clash (sym e ∙ not-true m t) (book-at i h l))) (λ h. sym h)
+      sym (all_of f (decode_book decode w n s) (decode [])
+      (λ j m.
+      let l : j < n - 0 = omega arith in
+      ap f (record-at decode w s n j (decode []) (omega arith)) ∙ ap (λ i. f (record_at decode w s i)) (sym (get_or-range_with_len 0 (n - 0) j 0 l ∙ zero-add j)) ∙ t j 0 (omega arith) (rw (length-range_with_len 0 (n - 0)) l)))
+  book-tested false (k, l, t) =
+      let m : k < n = omega (arith, length-range_with_len 0 (n - 0)) in
+      let e : f (record_at decode w s k) ≡ false = rw (get_or-range_with_len 0 (n - 0) k 0 (omega arith), zero-add k) at (t 0) in
+      test-cases (false ≡ all f (decode_book decode w n s)) (all f (decode_book decode w n s)) (λ h. absurd (clash e (book-at k h m))) (λ h. sym h)
 
 -- ---- the blocks of an extent
 
@@ -120,64 +127,38 @@ module _ {b r : ℕ} {u x : List ℕ} (s : MapsSized b r u x) where
   unfolding map_bytes
   sized-from = omega (arith, s.used_fits)
 
-  -- or with it
-  pub sized-to : 8 * length u < b + 64
-  unfolding map_bytes
-  sized-to = omega (arith, s.used_fits)
-
-module _ (b r : ℕ) (u x : List ℕ) where
-  -- a used bit past the last block
-  pub used-past : (m : Bool) → m ≡ all (λ k. not (bit_set u k)) (range b (8 * length u - b)) → not m ≡ true → false ≡ maps_alone b r u x
-  unfolding maps_alone none_past
-  used-past m e t = rw (← e, not-true m t, and-false (all (only u x) (range 0 r) && all (inside u x) (range 0 b))) refl
-
-  -- a retired one
-  pub retired-past : (m : Bool) → m ≡ all (λ k. not (bit_set x k)) (range b (8 * length x - b)) → not m ≡ true → false ≡ maps_alone b r u x
-  unfolding maps_alone none_past
-  retired-past m e t =
-      rw (← e, not-true m t, and-false (all (λ k. not (bit_set u k)) (range b (8 * length u - b))), and-false (all (only u x) (range 0 r) && all (inside u x) (range 0 b))) refl
-
+module _ (b r : ℕ) (u x : List ℕ) (s : MapsSized b r u x) where
   -- where no retired bit is past the last block, all bits are inside where those of the blocks are
-  inside-whole : all (λ k. not (bit_set x k)) (range b (8 * length x - b)) ≡ true → length x ≡ length u → b ≤ 8 * length u → all (inside u x) (range 0 (8 * length u)) ≡ all (inside u x) (range 0 b)
-  inside-whole h e l =
+  inside-whole : all (λ k. not (bit_set x k)) (range b (8 * length x - b)) ≡ true → all (inside u x) (range 0 (8 * length u)) ≡ all (inside u x) (range 0 b)
+  inside-whole h =
       let p : all (inside u x) (range b (8 * length u - b)) ≡ true =
-      all-weaken (inside u x) (λ k. not (bit_set x k)) (range b (8 * length u - b)) (λ k g. unfold inside in or_left (not (bit_set x k)) (bit_set u k) g) (rw e at h) in
+      all-weaken (inside u x) (λ k. not (bit_set x k)) (range b (8 * length u - b)) (λ k g. unfold inside in or_left (not (bit_set x k)) (bit_set u k) g) (rw (sized-paired s).same at h) in
       let c : 8 * length u - 0 ≡ 8 * length u = omega arith in
       let a : b - 0 ≡ b = omega arith in
-      (rw (c, a) at (all_two (inside u x) 0 b (8 * length u) (omega arith) l)) ∙ rw p (and-true (all (inside u x) (range 0 b)))
+      (rw (c, a) at (all_two (inside u x) 0 b (8 * length u) (omega arith) (sized-from s))) ∙ rw p (and-true (all (inside u x) (range 0 b)))
 
-  module _ (o : Bool) (v : o ≡ all (λ k. not (bit_set x k)) (range b (8 * length x - b))) (w : not o ≡ false) (d : MapsSized b r u x)
-      (q : Bool) (i : q ≡ all (inside u x) (range 0 (8 * length u))) where
-    -- the test of all words is that of the blocks
-    whole : q ≡ all (inside u x) (range 0 b)
-    whole = i ∙ inside-whole (sym v ∙ not-false o w) (sized-paired d).same (sized-from d)
-
-    -- a retired block is not used
-    pub retired-out : not q ≡ true → false ≡ maps_alone b r u x
-    unfolding maps_alone
-    retired-out t = rw (← whole, not-true q t, and-false (all (only u x) (range 0 r))) refl
-
-    -- it is left to the reserved ones
-    pub reserved-last : (m : Bool) → m ≡ all (λ k. not (bit_set u k)) (range b (8 * length u - b)) → not m ≡ false → not q ≡ false
-        → (y : Bool) → y ≡ all (only u x) (range 0 (r - 0)) → y ≡ maps_alone b r u x
-    unfolding maps_alone none_past
-    reserved-last m e t z y f =
-        let c : r - 0 ≡ r = omega arith in
-        rw (← whole, not-false q z, ← e, not-false m t, ← v, not-false o w) ((rw c at f) ∙ last (all (only u x) (range 0 r)))
-      where
-        last : (a : Bool) → a ≡ (a && true && (true && true))
-        last true = refl
-        last false = refl
+  -- the rules by the tests of whole words, the tails first
+  pub maps_alone_is : maps_alone b r u x
+      ≡ (all (λ k. not (bit_set u k)) (range b (8 * length u - b))
+      && all (λ k. not (bit_set x k)) (range b (8 * length x - b))
+      && all (inside u x) (range 0 (8 * length u))
+      && all (only u x) (range 0 (r - 0)))
+  unfolding maps_alone none_past
+  maps_alone_is =
+      let c : r - 0 ≡ r = omega arith in
+      rw c
+      (turn (all (only u x) (range 0 r)) (all (inside u x) (range 0 b)) (all (λ k. not (bit_set u k)) (range b (8 * length u - b)))
+      (all (λ k. not (bit_set x k)) (range b (8 * length x - b))) (all (inside u x) (range 0 (8 * length u))) inside-whole)
+    where
+      turn : (o i a c w : Bool) → (c ≡ true → w ≡ i) → (o && i && (a && c)) ≡ (a && c && w && o)
+      turn o i false c w h = rw (and-false (o && i)) refl
+      turn o i true false w h = rw (and-false (o && i)) refl
+      turn true i true true w h = rw (h refl, and-true i) refl
+      turn false i true true w h = rw (and-false w) refl
 
 -- ---- both
 
-module _ (b r : ℕ) (u x : List ℕ) (es : List Extent) (m : Bool) (p : m ≡ maps_alone b r u x) where
-  -- the maps alone are wrong
-  pub alone-wrong : not m ≡ true → true ≡ not (maps_right b r u x es)
-  unfolding maps_right
-  alone-wrong t = rw (← p, not-true m t, and-false (all (extent_mappable r u x) es)) refl
-
-  -- it is left to the extents
-  pub extents-last : (q : Bool) → not m ≡ false → q ≡ all (extent_mappable r u x) es → not q ≡ not (maps_right b r u x es)
-  unfolding maps_right
-  extents-last q t e = rw (← p, not-false m t, ← e, and-true q) refl
+-- the maps alone are tested first
+pub maps_right_is : (b r : ℕ) (u x : List ℕ) (es : List Extent) → maps_right b r u x es ≡ (maps_alone b r u x && all (extent_mappable r u x) es)
+unfolding maps_right
+maps_right_is b r u x es = and_comm (all (extent_mappable r u x) es) (maps_alone b r u x)

@@ -11,76 +11,66 @@ ghost use Rattle.intake_maps.specs.MapTests.{blocks_mappable, extent_mappable, m
 
 use format::extent::EXTENT_BYTES;
 
-// Whether the `count` blocks from `first` on are used, not retired and not reserved. Those of most extents lie in one word.
-fn blocks_mappable(first: u64, count: u32, reserved: usize, used: &[u8], retired: &[u8]) -> bool
-    requires paired { Paired used.now retired.now }
-    requires count_nonzero { (0 < count) × (first + count ≤ 8 * length used.now) }
-    ensures { result ≡ blocks_mappable reserved used.now retired.now first count }
-{
-    let a = first as usize;
-    let n = count as usize;
-    let e = a + n;
-    if a < reserved {
-        return false;
-    }
-    if n <= 64 - a % 64 {
-        return bitmap_pairs::only_in_word(used, retired, a, n);
-    }
-    bitmap_pairs::all_only(used, retired, a, e)
+// Both maps, and how many blocks are reserved.
+#[derive(Clone, Copy)]
+pub struct Maps<'a> {
+    pub reserved: usize,
+    pub used: &'a [u8],
+    pub retired: &'a [u8],
+    ghost paired: { Paired used.now retired.now },
 }
 
-// Whether the blocks of the extent at place `i` are.
-fn extent_mappable(extents: &[u8], i: usize, reserved: usize, used: &[u8], retired: &[u8]) -> bool
-    requires paired { Paired used.now retired.now }
-    requires extent_bytes_in_bounds { extent_bytes * i + extent_bytes ≤ length extents.now }
-    requires i_value { placed (8 * length used.now) (record_at decode_extent extent_bytes extents.now i) ≡ true }
-    ensures { result ≡ extent_mappable reserved used.now retired.now (record_at decode_extent extent_bytes extents.now i) }
-{
-    let e = format::extent::decode_extent(extents, EXTENT_BYTES * i);
-    blocks_mappable(e.physical, e.count, reserved, used, retired)
-}
-
-// Whether the blocks of the first `n` extents are.
-pub fn extents_mappable(
-    extents: &[u8],
-    n: usize,
-    reserved: usize,
-    used: &[u8],
-    retired: &[u8],
-) -> bool
-    requires paired { Paired used.now retired.now }
-    requires n_in_bounds { extent_bytes * n ≤ length extents.now }
-    requires extents_value { all (placed (8 * length used.now)) (decode_book decode_extent extent_bytes n extents.now) ≡ true }
-    ensures { result ≡ all (extent_mappable reserved used.now retired.now) (decode_book decode_extent extent_bytes n extents.now) }
-{
-    let mut i: usize = 0;
-    while i < n {
-        if !extent_mappable(extents, i, reserved, used, retired) {
-            return false;
+impl<'a> Maps<'a> {
+    // Whether the `count` blocks from `first` on are used, not retired and not reserved. Those of most extents lie in one word.
+    fn blocks_mappable(&self, first: u64, count: u32) -> bool
+        requires { (0 < count) × (first + count ≤ 8 * length self.now.used.now) }
+        ensures { result ≡ blocks_mappable self.now.reserved self.now.used.now self.now.retired.now first count }
+    {
+        let a = first as usize;
+        let n = count as usize;
+        if a < self.reserved {
+            false
+        } else if n <= 64 - a % 64 {
+            bitmap_pairs::only_in_word(self.used, self.retired, a, n)
+        } else {
+            bitmap_pairs::all_only(self.used, self.retired, a, a + n)
         }
-        i += 1;
     }
-    true
-}
 
-// Whether the maps keep the rules that speak of no extent.
-pub fn maps_alone(blocks: usize, reserved: usize, used: &[u8], retired: &[u8]) -> bool
-    requires { MapsSized blocks reserved used.now retired.now }
-    ensures { result ≡ maps_alone blocks reserved used.now retired.now }
-{
-    if !bitmap_pairs::clear_behind(used, blocks) {
-        return false;
+    // Whether the blocks of the extent at place `i` are.
+    fn extent_mappable(&self, extents: &[u8], i: usize) -> bool
+        requires extent_bytes_in_bounds { extent_bytes * i + extent_bytes ≤ length extents.now }
+        requires i_value { placed (8 * length self.now.used.now) (record_at decode_extent extent_bytes extents.now i) ≡ true }
+        ensures { result ≡ extent_mappable self.now.reserved self.now.used.now self.now.retired.now (record_at decode_extent extent_bytes extents.now i) }
+    {
+        let e = format::extent::decode_extent(extents, EXTENT_BYTES * i);
+        self.blocks_mappable(e.physical, e.count)
     }
-    if !bitmap_pairs::clear_behind(retired, blocks) {
-        return false;
+
+    // Whether the blocks of the first `n` extents are.
+    pub fn extents_mappable(&self, extents: &[u8], n: usize) -> bool
+        requires n_in_bounds { extent_bytes * n ≤ length extents.now }
+        requires extents_value { all (placed (8 * length self.now.used.now)) (decode_book decode_extent extent_bytes n extents.now) ≡ true }
+        ensures { result ≡ all (extent_mappable self.now.reserved self.now.used.now self.now.retired.now) (decode_book decode_extent extent_bytes n extents.now) }
+    {
+        (0..n).all(|i| self.extent_mappable(extents, i))
     }
-    if !bitmap_pairs::all_inside(used, retired) {
-        return false;
+
+    // Whether the maps keep the rules that speak of no extent.
+    #[tactic(auto, using(crate::proofs::MapLaws::maps_alone_is), unfolding(rules::specs::Map::map_bytes))]
+    pub fn alone(&self, blocks: usize) -> bool
+        requires { MapsSized blocks self.now.reserved self.now.used.now self.now.retired.now }
+        ensures { result ≡ maps_alone blocks self.now.reserved self.now.used.now self.now.retired.now }
+    {
+        bitmap_pairs::clear_behind(self.used, blocks)
+            && bitmap_pairs::clear_behind(self.retired, blocks)
+            && bitmap_pairs::all_inside(self.used, self.retired)
+            && bitmap_pairs::all_only(self.used, self.retired, 0, self.reserved)
     }
-    bitmap_pairs::all_only(used, retired, 0, reserved)
 }
 
 // Whether the maps break a rule: the first `n` extents have blocks, and they lie on the device.
+#[tactic(auto, using(crate::proofs::MapLaws::maps_right_is))]
 pub fn maps_broken(
     extents: &[u8],
     n: usize,
@@ -94,8 +84,10 @@ pub fn maps_broken(
     requires extents_value { all (placed blocks) (decode_book decode_extent extent_bytes n extents.now) ≡ true }
     ensures { result ≡ not (maps_right blocks reserved used.now retired.now (decode_book decode_extent extent_bytes n extents.now)) }
 {
-    if !maps_alone(blocks, reserved, used, retired) {
-        return true;
-    }
-    !extents_mappable(extents, n, reserved, used, retired)
+    let maps = Maps {
+        reserved,
+        used,
+        retired,
+    };
+    !(maps.alone(blocks) && maps.extents_mappable(extents, n))
 }

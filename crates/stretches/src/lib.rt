@@ -10,39 +10,26 @@ ghost use Rattle.rules.specs.Lists.{begun};
 ghost use Rattle.rules.specs.Sizes.{unit_bytes};
 ghost use Rattle.rules.specs.Bytes.{patch};
 ghost use Rattle.rules.specs.Stretches.{stretch_bytes, encode_stretch};
+ghost use Rattle.format.specs.Refusals.{number_in, count_in};
 ghost use Rattle.read.specs.Gives.{gives};
 ghost use Rattle.presence.specs.Units.{GroupsRight, groups_in, slotted, stretch, stretches_from};
 ghost use Rattle.stretches.specs.Lists.{lists_file, lists_object, ListReady};
 
 use format::card::CARD_BYTES;
+use format::refusal::Refusal;
 use format::sizes::UNIT_BYTES;
 use presence::Position;
-
-// The numbers of refusals 3 and 19.
-const NO_CARD: u32 = 3;
-
-const BAD_RANGE: u32 = 19;
 
 // Bytes of a pair, and where in it the number of units stands.
 pub const STRETCH_BYTES: usize = 16;
 
 const UNITS_AT: usize = 8;
 
-// The list's answer: 0 and the number of pairs, or the number of its refusal and 0.
-#[derive(Clone, Copy)]
-pub struct Listed {
-    pub number: u32,
-    pub count: u64,
-}
-
-// How many units a file of this size begins. No sum of the size, which is up to the last number of 64 bits.
+// How many units a file of this size begins.
 fn units_begun(size: u64) -> u64
     ensures { (result ≡ begun size unit_bytes) × (result < 2 ^ 63) }
 {
-    if size == 0 {
-        return 0;
-    }
-    (size - 1) / UNIT_BYTES as u64 + 1
+    size.div_ceil(UNIT_BYTES as u64)
 }
 
 // How many stretches there are from `first` on up to `end`.
@@ -99,7 +86,7 @@ fn put_stretches(groups: &[u8], n: usize, object: u64, first: u64, end: u64, out
     }
 }
 
-// The pairs of a file of this size.
+// The pairs of a file of this size: how many there are.
 fn list_file(
     groups: &[u8],
     n: usize,
@@ -108,26 +95,20 @@ fn list_file(
     first: u64,
     units: u64,
     out: &mut [u8],
-) -> Listed
+) -> Result<u64, Refusal>
     requires { GroupsRight n groups.now }
-    ensures { gives result.number result.count out.new ≡ lists_file (groups_in n groups.now) object first units out.old size }
+    ensures { gives (number_in result) (count_in result) out.new ≡ lists_file (groups_in n groups.now) object first units out.old size }
 {
-    if units > 0xffff_ffff_ffff_ffff - first {
-        return Listed {
-            number: BAD_RANGE,
-            count: 0,
-        };
+    if units > u64::MAX - first {
+        return Err(Refusal::BadRange);
     }
-    let end = presence::least(first + units, units_begun(size));
+    let end = (first + units).min(units_begun(size));
     let count = count_stretches(groups, n, object, first, end);
     if count > (out.len() / STRETCH_BYTES) as u64 {
-        return Listed {
-            number: BAD_RANGE,
-            count: 0,
-        };
+        return Err(Refusal::BadRange);
     }
     put_stretches(groups, n, object, first, end, out);
-    Listed { number: 0, count }
+    Ok(count)
 }
 
 // The pairs of the file of `object`: refusal 3, or what its groups give.
@@ -139,9 +120,9 @@ pub fn data_stretches(
     first: u64,
     units: u64,
     out: &mut [u8],
-) -> Listed
+) -> Result<u64, Refusal>
     requires { ListReady head.now cards.now groups.now }
-    ensures { gives result.number result.count out.new ≡ lists_object head.now cards.now groups.now object first units out.old }
+    ensures { gives (number_in result) (count_in result) out.new ≡ lists_object head.now cards.now groups.now object first units out.old }
 {
     let h = format::head::decode_head(head);
     match book::find::find_card(cards, h.cards as usize, object) {
@@ -149,9 +130,6 @@ pub fn data_stretches(
             let size = format::card::card_size(cards, CARD_BYTES * i);
             list_file(groups, h.groups as usize, object, size, first, units, out)
         }
-        None => Listed {
-            number: NO_CARD,
-            count: 0,
-        },
+        None => Err(Refusal::NoCard),
     }
 }

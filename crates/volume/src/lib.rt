@@ -109,10 +109,12 @@ pub fn sangueko_data_stretches(
     if number != 0 {
         return Answer { number, count: 0 };
     }
-    let listed = stretches::data_stretches(head, cards, groups, object, first, units, out);
-    Answer {
-        number: listed.number,
-        count: listed.count,
+    match stretches::data_stretches(head, cards, groups, object, first, units, out) {
+        Ok(count) => Answer { number: 0, count },
+        Err(r) => Answer {
+            number: r.number(),
+            count: 0,
+        },
     }
 }
 

@@ -2,6 +2,8 @@
 -- Assumes nothing.
 use native.Mathlib.Omega.{arith}
 use Rattle.read.proofs.GivesLaws.{head-cards, card-within}
+use Rattle.format.specs.Refusals.{number_in, count_in, refusal_of}
+use Rattle.rules.specs.Refusal.{number_of}
 use Rattle.stretches.proofs.ListLaws.{head-groups, list-none, list-some}
 use Rattle.stretches.proofs.data_stretches.Goals as goal
 
@@ -23,4 +25,5 @@ returns-in-Some c =
     c.in-Some.is c.card_size-size.ensures.0 c.list_file.ensures
 
 pub returns-in-None : goal.returns-in-None
+unfolding number_in count_in refusal_of number_of
 returns-in-None c = list-none _ _ c.decode_head-h.ensures.0 _ _ _ c.find_card.ensures _ _ _ _ c.in-None.is
