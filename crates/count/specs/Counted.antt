@@ -9,15 +9,7 @@ counted_of allocated gone given = allocated - gone + given
 
 -- the card with another count, and its other fields as they were
 abbrev pub with_count : Card → ℕ → Card
-with_count c allocated = record {
-  object = c.object;
-  size = c.size;
-  allocated = allocated;
-  seconds = c.seconds;
-  nanoseconds = c.nanoseconds;
-  created_seconds = c.created_seconds;
-  created_nanoseconds = c.created_nanoseconds;
-}
+with_count c allocated = record c { allocated = allocated }
 
 -- the card with that count
 abbrev pub card_counted : Card → (gone given : ℕ) → Card

@@ -9,7 +9,7 @@ ghost use Rattle.rules.specs.Finish.{changed_card, finished_cards};
 ghost use Rattle.book.specs.Places.{record_at, card_is};
 ghost use Rattle.finish_books.specs.Buffers.{CardsRight};
 
-use format::card::CARD_BYTES;
+use format::card::{CARD_BYTES, Time};
 
 // The card at place `i` with a new size, count and time, written over the old one: what a change leaves as it is comes from the book.
 fn change_card(
@@ -25,7 +25,11 @@ fn change_card(
     ensures { cards.new ≡ patch cards.old (card_bytes * i) (encode_card (changed_card size allocated (record { seconds = seconds; nanoseconds = nanoseconds }) (record_at decode_card card_bytes cards.old i))) }
 {
     let c = format::card::decode_card(cards, CARD_BYTES * i);
-    let d = c.changed(size, allocated, seconds, nanoseconds);
+    let time = Time {
+        seconds,
+        nanoseconds,
+    };
+    let d = c.changed(size, allocated, time);
     format::card::encode_card(cards, CARD_BYTES * i, d);
 }
 

@@ -8,7 +8,7 @@ use native.Mathlib.Nat.{add-zero}
 use native.Mathlib.Omega.{arith}
 use borrow.Author.Tests.{eqb-true, eq-eqb, ne_eqb}
 use lib.Dec.{eqb}
-use lib.ListN.{length, take, drop, get_or, replicate, length-append, length-drop, length-replicate}
+use lib.ListN.{length, take, drop, get_or, replicate, length-append, length-drop}
 use lib.Seq.{take_all}
 use Rattle.rules.specs.Bytes.{be, le, be_digits, le_digits, part, patch, unpack, all_zero}
 use Rattle.rules.specs.Head.{head_bytes, uuid_bytes, head_widths, head_fields, decode_head}
@@ -18,17 +18,16 @@ use Rattle.rules.specs.Extent.{extent_bytes, extent_key, decode_extent, encode_e
 use Rattle.rules.specs.Lists.{all}
 use Rattle.rules.proofs.ListLaws.{and_left, and_right, and_intro}
 use Rattle.rules.proofs.ScanLaws.{same_test}
-use Rattle.rules.proofs.ByteLaws.{length-be_digits, length-le_digits, length_part, get_d_part, part-part, patch-patch}
+use Rattle.rules.proofs.ByteLaws.{length-be_digits, length-le_digits, get_d_part, part-part, patch-patch}
 use Rattle.rules.proofs.CardLaws as laws
 use Rattle.rules.proofs.FieldLaws.{Fit, fit_at, fit-unpack}
-use Rattle.fields.specs.Fields.{head_values, card_values}
+use Rattle.fields.specs.Fields.{head_values}
 use Rattle.fields.specs.declared.Head.{Head as HeadValues}
-use Rattle.fields.specs.declared.Card.{Card as CardValues}
 use Rattle.words.proofs.NumberLaws.{patch-whole}
 use Rattle.format.specs.declared.head.Head.{Head}
 use Rattle.format.specs.declared.card.Card.{Card}
 use Rattle.format.specs.declared.extent.Extent.{Extent}
-use Rattle.format.specs.Records.{head_of, HeadFits, card_of, CardFits, extent_of}
+use Rattle.format.specs.Records.{head_of, HeadFits, card_of, packed_card, CardFits, extent_of}
 
 -- ---- keys
 
@@ -113,35 +112,28 @@ module _ (s : List ℕ) (at : ℕ) where
   -- ---- cards
 
   -- a card's fields, read
-  pub card-read : (f : CardValues) (c : Card) → card_values f ≡ unpack card_widths (be (part at card_bytes s))
-      → c.object ≡ f.object → c.size ≡ f.size → c.allocated ≡ f.allocated → c.seconds ≡ f.seconds → c.nanoseconds ≡ f.nanoseconds
-      → c.created_seconds ≡ f.created_seconds → c.created_nanoseconds ≡ f.created_nanoseconds
-      → card_of c ≡ decode_card (part at card_bytes s)
+  pub card-read : (c : Card) (spare : ℕ) → packed_card c spare ≡ unpack card_widths (be (part at card_bytes s)) → card_of c ≡ decode_card (part at card_bytes s)
   unfolding card_of decode_card card_fields
-  card-read f c v o z a t n x y =
-      (λ i. record { object = o i; size = z i; allocated = a i; changed = record { seconds = t i; nanoseconds = n i }; created = record { seconds = x i; nanoseconds = y i } })
-      ∙ (λ i. record {
-        object = get_or (v i) 0 0;
-        size = get_or (v i) 1 0;
-        allocated = get_or (v i) 2 0;
-        changed = record { seconds = get_or (v i) 3 0; nanoseconds = get_or (v i) 4 0 };
-        created = record { seconds = get_or (v i) 5 0; nanoseconds = get_or (v i) 6 0 };
-      })
+  card-read c spare v = λ i. record {
+    object = get_or (v i) 0 0;
+    size = get_or (v i) 1 0;
+    allocated = get_or (v i) 2 0;
+    changed = record { seconds = get_or (v i) 3 0; nanoseconds = get_or (v i) 4 0 };
+    created = record { seconds = get_or (v i) 5 0; nanoseconds = get_or (v i) 6 0 };
+  }
 
   -- they are within their widths
-  pub card-fits : (f : CardValues) (c : Card) → card_values f ≡ unpack card_widths (be (part at card_bytes s))
-      → c.size ≡ f.size → c.allocated ≡ f.allocated → c.seconds ≡ f.seconds → c.nanoseconds ≡ f.nanoseconds
-      → c.created_seconds ≡ f.created_seconds → c.created_nanoseconds ≡ f.created_nanoseconds → CardFits c
-  card-fits f c v z a t n x y =
+  pub card-fits : (c : Card) (spare : ℕ) → packed_card c spare ≡ unpack card_widths (be (part at card_bytes s)) → CardFits c
+  card-fits c spare v =
       let g : Fit card_widths (unpack card_widths (be (part at card_bytes s))) = fit-unpack card_widths (be (part at card_bytes s)) in
-      let fit : Fit card_widths (card_values f) = rw v g in
+      let fit : Fit card_widths (packed_card c spare) = rw v g in
       record {
-        size = rw z (fit_at fit 1 (omega arith));
-        allocated = rw a (fit_at fit 2 (omega arith));
-        seconds = rw t (fit_at fit 3 (omega arith));
-        nanoseconds = rw n (fit_at fit 4 (omega arith));
-        created_seconds = rw x (fit_at fit 5 (omega arith));
-        created_nanoseconds = rw y (fit_at fit 6 (omega arith));
+        size = fit_at fit 1 (omega arith);
+        allocated = fit_at fit 2 (omega arith);
+        seconds = fit_at fit 3 (omega arith);
+        nanoseconds = fit_at fit 4 (omega arith);
+        created_seconds = fit_at fit 5 (omega arith);
+        created_nanoseconds = fit_at fit 6 (omega arith);
       }
 
 -- the card that it says is in range
@@ -203,11 +195,3 @@ head-put s x t uuid n l u p q =
     let d : length (be_digits 12 n) ≡ 12 = length-be_digits 12 n in
     let w : length (uuid ++ be_digits 12 n) ≡ 28 = rw (length-append, u, d) refl in
     q ∙ ap (λ (b : List ℕ). patch b 16 (be_digits 12 n)) p ∙ patch-patch s 0 16 uuid (be_digits 12 n) (omega arith) (omega arith) ∙ patch-whole s (uuid ++ be_digits 12 n) (omega arith)
-
--- the uuid fits the head
-pub uuid-room : (s uuid : List ℕ) → length s ≡ head_bytes → length uuid ≡ uuid_bytes → 0 + length uuid ≤ length s
-uuid-room s uuid l u = omega arith
-
--- the uuid, copied
-pub uuid-read : (s x : List ℕ) → uuid_bytes ≤ length s → x ≡ patch (replicate 16 0) 0 (part 0 16 s) → x ≡ take uuid_bytes s
-uuid-read s x l e = e ∙ patch-whole (replicate 16 0) (part 0 16 s) (length_part s 0 16 l ∙ sym (length-replicate {A = ℕ} 16 0)) ∙ (unfold part in refl)

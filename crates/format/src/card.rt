@@ -4,7 +4,8 @@ ghost use Rattle.rules.specs.Bytes.{part, patch};
 ghost use Rattle.rules.specs.Card.{card_bytes, decode_card, encode_card, card_spare_zero, card_before};
 ghost use Rattle.rules.specs.Enter.{new_card};
 ghost use Rattle.rules.specs.Finish.{changed_card};
-ghost use Rattle.format.specs.Records.{card_of, CardFits};
+ghost use Rattle.fields.specs.Fields.{card_values};
+ghost use Rattle.format.specs.Records.{time_of, card_of, packed_card, CardFits};
 
 // Bytes of a card.
 pub const CARD_BYTES: usize = 48;
@@ -19,30 +20,33 @@ const CREATED_AT: usize = 32;
 
 const SPARE_AT: usize = 40;
 
+// A time in seconds, and nanoseconds past them.
+#[derive(Clone, Copy)]
+pub struct Time {
+    pub seconds: u64,
+    pub nanoseconds: u64,
+}
+
 // A file's object, its size, the blocks that it has, the time of its last change, and the time at which it was made.
 #[derive(Clone, Copy)]
 pub struct Card {
     pub object: u64,
     pub size: u64,
     pub allocated: u64,
-    pub seconds: u64,
-    pub nanoseconds: u64,
-    pub created_seconds: u64,
-    pub created_nanoseconds: u64,
+    pub changed: Time,
+    pub created: Time,
 }
 
 // The card of a file that is made at this time, with no bytes and no blocks.
-pub fn new_card(object: u64, seconds: u64, nanoseconds: u64) -> Card
-    ensures { card_of result ≡ new_card object (record { seconds = seconds; nanoseconds = nanoseconds }) }
+pub fn new_card(object: u64, time: Time) -> Card
+    ensures { card_of result ≡ new_card object (time_of time) }
 {
     Card {
         object,
         size: 0,
         allocated: 0,
-        seconds,
-        nanoseconds,
-        created_seconds: seconds,
-        created_nanoseconds: nanoseconds,
+        changed: time,
+        created: time,
     }
 }
 
@@ -55,17 +59,53 @@ impl Card {
     }
 
     // The card after a change to its file at this time: it is of the same file, made when it was.
-    pub fn changed(self, size: u64, allocated: u64, seconds: u64, nanoseconds: u64) -> Card
-        ensures { card_of result ≡ changed_card size allocated (record { seconds = seconds; nanoseconds = nanoseconds }) (card_of self) }
+    pub fn changed(self, size: u64, allocated: u64, time: Time) -> Card
+        ensures { card_of result ≡ changed_card size allocated (time_of time) (card_of self) }
     {
         Card {
-            object: self.object,
             size,
             allocated,
-            seconds,
-            nanoseconds,
-            created_seconds: self.created_seconds,
-            created_nanoseconds: self.created_nanoseconds,
+            changed: time,
+            ..self
+        }
+    }
+}
+
+// A card's packed fields without the spare bits.
+impl From<fields::Card> for Card {
+    ghost from_gives = { λ f c. card_values f ≡ packed_card c f.spare };
+
+    fn from(f: fields::Card) -> Card {
+        Card {
+            object: f.object,
+            size: f.size,
+            allocated: f.allocated,
+            changed: Time {
+                seconds: f.seconds,
+                nanoseconds: f.nanoseconds,
+            },
+            created: Time {
+                seconds: f.created_seconds,
+                nanoseconds: f.created_nanoseconds,
+            },
+        }
+    }
+}
+
+// The packed fields of a card, the spare bits zero.
+impl From<Card> for fields::Card {
+    ghost from_gives = { λ c f. card_values f ≡ packed_card c 0 };
+
+    fn from(c: Card) -> fields::Card {
+        fields::Card {
+            object: c.object,
+            size: c.size,
+            allocated: c.allocated,
+            seconds: c.changed.seconds,
+            nanoseconds: c.changed.nanoseconds,
+            created_seconds: c.created.seconds,
+            created_nanoseconds: c.created.nanoseconds,
+            spare: 0,
         }
     }
 }
@@ -75,16 +115,7 @@ pub fn decode_card(s: &[u8], at: usize) -> Card
     requires { at + card_bytes ≤ length s.now }
     ensures { (card_of result ≡ decode_card (part at card_bytes s.now)) × CardFits result }
 {
-    let f = fields::read_card(s, at);
-    Card {
-        object: f.object,
-        size: f.size,
-        allocated: f.allocated,
-        seconds: f.seconds,
-        nanoseconds: f.nanoseconds,
-        created_seconds: f.created_seconds,
-        created_nanoseconds: f.created_nanoseconds,
-    }
+    Card::from(fields::read_card(s, at))
 }
 
 // The object of the card at `at`. A field that is read by itself is read from its own word: a whole card costs six.
@@ -134,15 +165,5 @@ pub fn encode_card(s: &mut [u8], at: usize, c: Card)
     requires card_fits { CardFits c }
     ensures { s.new ≡ patch s.old at (encode_card (card_of c)) }
 {
-    let f = fields::Card {
-        object: c.object,
-        size: c.size,
-        allocated: c.allocated,
-        seconds: c.seconds,
-        nanoseconds: c.nanoseconds,
-        created_seconds: c.created_seconds,
-        created_nanoseconds: c.created_nanoseconds,
-        spare: 0,
-    };
-    fields::put_card(s, at, f);
+    fields::put_card(s, at, fields::Card::from(c));
 }

@@ -1,5 +1,5 @@
-// An extent: blocks of a file that lie side by side on the device. Its methods hold for any field values, those of a damaged record too: no
-// sum is made before it is known to fit.
+// An extent: blocks of a file that lie side by side on the device. Its methods hold for any field values, those of a damaged record too: a sum
+// that is not known to fit saturates.
 ghost use Rattle.std.specs.Prelude.{◌≡◌, true, ◌+◌, ◌-◌, ◌*◌, ◌^◌, ◌≤◌, ◌<◌, min, eqb, leb, length};
 ghost use Rattle.rules.specs.Bytes.{part, patch};
 ghost use Rattle.rules.specs.Extent.{extent_bytes, extent_key, encode_extent, decode_extent, extent_fixed, extent_before, extent_end, device_end, joins, joined, covers, block_of};
@@ -35,20 +35,14 @@ pub struct Extent {
 fn meets(start: u64, count: u32, next: u64) -> bool
     ensures { result ≡ eqb (start + count) next }
 {
-    if next < start {
-        return false;
-    }
-    next - start == count as u64
+    start <= next && next - start == count as u64
 }
 
 // Whether `count` blocks from `start` on end at `limit` or before.
 fn ends_at_most(start: u64, count: u32, limit: u64) -> bool
     ensures { result ≡ leb (start + count) limit }
 {
-    if limit < start {
-        return false;
-    }
-    count as u64 <= limit - start
+    start <= limit && count as u64 <= limit - start
 }
 
 impl Extent {
@@ -56,22 +50,16 @@ impl Extent {
     pub fn end(self) -> u64
         ensures { result ≡ min (extent_end (extent_of self)) (2 ^ 64 - 1) }
     {
-        if self.count as u64 <= 0xffff_ffff_ffff_ffff - self.logical {
-            self.logical + self.count as u64
-        } else {
-            0xffff_ffff_ffff_ffff
-        }
+        self.logical.saturating_add(self.count as u64)
     }
 
     // The device's byte after it, saturating: 0xf_ffff_ffff_ffff blocks are the most whose bytes are counted in 64 bits.
     pub fn device_end(self) -> u64
         ensures { result ≡ device_end (extent_of self) }
     {
-        if ends_at_most(self.physical, self.count, 0xf_ffff_ffff_ffff) {
-            (self.physical + self.count as u64) * BLOCK_BYTES as u64
-        } else {
-            0xffff_ffff_ffff_ffff
-        }
+        self.physical
+            .saturating_add(self.count as u64)
+            .saturating_mul(BLOCK_BYTES as u64)
     }
 
     // Whether it ends at the file's block `limit` or before.
@@ -92,13 +80,7 @@ impl Extent {
     pub fn covers(self, object: u64, block: u64) -> bool
         ensures { result ≡ covers object block (extent_of self) }
     {
-        if self.object != object {
-            return false;
-        }
-        if block < self.logical {
-            return false;
-        }
-        block - self.logical < self.count as u64
+        self.object == object && self.logical <= block && block - self.logical < self.count as u64
     }
 
     // Where it has the file's block on the device.
@@ -114,16 +96,10 @@ impl Extent {
     pub fn joins(self, next: Extent) -> bool
         ensures { result ≡ joins (extent_of self) (extent_of next) }
     {
-        if self.object != next.object {
-            return false;
-        }
-        if !meets(self.logical, self.count, next.logical) {
-            return false;
-        }
-        if !meets(self.physical, self.count, next.physical) {
-            return false;
-        }
-        self.count <= 0xffff_ffff - next.count
+        self.object == next.object
+            && meets(self.logical, self.count, next.logical)
+            && meets(self.physical, self.count, next.physical)
+            && self.count <= u32::MAX - next.count
     }
 
     // The two as one.
@@ -132,10 +108,8 @@ impl Extent {
         ensures { extent_of result ≡ joined (extent_of self) (extent_of next) }
     {
         Extent {
-            object: self.object,
-            logical: self.logical,
-            physical: self.physical,
             count: self.count + next.count,
+            ..self
         }
     }
 
@@ -150,10 +124,7 @@ impl Extent {
     pub fn apart(self, next: Extent) -> bool
         ensures { result ≡ apart (extent_of self) (extent_of next) }
     {
-        if self.object != next.object {
-            return true;
-        }
-        ends_at_most(self.logical, self.count, next.logical)
+        self.object != next.object || ends_at_most(self.logical, self.count, next.logical)
     }
 }
 
@@ -175,10 +146,7 @@ pub fn extent_fixed(s: &[u8], at: usize) -> bool
     requires { at + extent_bytes ≤ length s.now }
     ensures { result ≡ extent_fixed (part at extent_bytes s.now) }
 {
-    if s[at + super::key::TAG_AT] != EXTENT_TAG {
-        return false;
-    }
-    words::le32(s, at + ZEROS_AT) == 0
+    s[at + super::key::TAG_AT] == EXTENT_TAG && words::le32(s, at + ZEROS_AT) == 0
 }
 
 // The key of an extent, at `at`.

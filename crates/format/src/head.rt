@@ -1,7 +1,8 @@
 // The head: the store's record of itself, 28 bytes in a buffer of their own.
 ghost use Rattle.std.specs.Prelude.{◌≡◌, ◌≤◌, length, take};
 ghost use Rattle.rules.specs.Head.{head_bytes, uuid_bytes, decode_head, encode_head};
-ghost use Rattle.format.specs.Records.{head_of, HeadFits};
+ghost use Rattle.fields.specs.Fields.{head_values};
+ghost use Rattle.format.specs.Records.{head_of, packed_head, HeadFits};
 
 // Bytes of a head.
 pub const HEAD_BYTES: usize = 28;
@@ -22,14 +23,28 @@ pub struct Head {
     pub groups: u64,
 }
 
+// The packed fields of a head.
+impl From<Head> for fields::Head {
+    ghost from_gives = { λ h f. head_values f ≡ packed_head h };
+
+    fn from(h: Head) -> fields::Head {
+        fields::Head {
+            blocks: h.blocks,
+            reserved: h.reserved,
+            hint: h.hint,
+            cards: h.cards,
+            extents: h.extents,
+            groups: h.groups,
+        }
+    }
+}
+
 // The uuid of a head's bytes.
 pub fn read_uuid(s: &[u8]) -> [u8; UUID_BYTES]
     requires { uuid_bytes ≤ length s.now }
     ensures { result ≡ take uuid_bytes s.now }
 {
-    let mut uuid = [0u8; UUID_BYTES];
-    words::range::copy_part(&mut uuid, 0, s, 0, UUID_BYTES);
-    uuid
+    *s.first_chunk().unwrap()
 }
 
 // What the 28 bytes say.
@@ -37,10 +52,9 @@ pub fn decode_head(s: &[u8]) -> Head
     requires { length s.now ≡ head_bytes }
     ensures { (head_of result ≡ decode_head s.now) × HeadFits result }
 {
-    let uuid = read_uuid(s);
     let f = fields::read_head(s, UUID_BYTES);
     Head {
-        uuid,
+        uuid: read_uuid(s),
         blocks: f.blocks,
         reserved: f.reserved,
         hint: f.hint,
@@ -56,15 +70,6 @@ pub fn encode_head(s: &mut [u8], h: Head)
     requires head_fits { HeadFits h }
     ensures { s.new ≡ encode_head (head_of h) }
 {
-    let uuid = h.uuid;
-    let f = fields::Head {
-        blocks: h.blocks,
-        reserved: h.reserved,
-        hint: h.hint,
-        cards: h.cards,
-        extents: h.extents,
-        groups: h.groups,
-    };
-    words::range::copy(s, 0, &uuid);
-    fields::put_head(s, UUID_BYTES, f);
+    words::range::copy(s, 0, &h.uuid);
+    fields::put_head(s, UUID_BYTES, fields::Head::from(h));
 }

@@ -15,15 +15,7 @@ pub const NUMBER_AT: usize = 9;
 pub fn before(a: u64, b: u64, c: u64, d: u64) -> bool
     ensures { result ≡ pair_before a b c d }
 {
-    if a == c { b < d } else { a < c }
-}
-
-// One byte, at `at`.
-fn put_byte(s: &mut [u8], at: usize, b: u8)
-    requires { at < length s.old }
-    ensures { s.new ≡ patch s.old at (b ∷ []) }
-{
-    s[at] = b;
+    (a, b) < (c, d)
 }
 
 // The bytes of a key, at `at`.
@@ -32,6 +24,6 @@ pub fn put_key(s: &mut [u8], at: usize, a: u64, tag: u8, b: u64)
     ensures { s.new ≡ patch s.old at (be_digits 8 a ++ (tag ∷ be_digits 8 b)) }
 {
     words::put_be64(s, at, a);
-    put_byte(s, at + TAG_AT, tag);
+    s[at + TAG_AT] = tag;
     words::put_be64(s, at + NUMBER_AT, b);
 }

@@ -21,7 +21,7 @@ ghost use Rattle.rewrite.specs.Arguments.{Described, LookedUp, PlanFor, BlocksOf
 ghost use Rattle.rewrite.specs.Given.{Gives, Lays};
 ghost use Rattle.rewrite.specs.Answers.{from_card, Carries, ChangedAt, UnitPlanned, UnitsPlanned};
 
-use format::card::Card;
+use format::card::{Card, Time};
 use format::sizes::UNIT_BLOCKS;
 
 // Refusal 13: too few blocks are free.
@@ -178,14 +178,16 @@ fn counted(object: u64, size: u64, allocated: u64, gone: u64, given: u64) -> u64
     requires { (gone ≤ allocated) × (allocated + given < 2 ^ 64) }
     ensures { result ≡ allocated - gone + given }
 {
+    let time = Time {
+        seconds: 0,
+        nanoseconds: 0,
+    };
     let card = Card {
         object,
         size,
         allocated,
-        seconds: 0,
-        nanoseconds: 0,
-        created_seconds: 0,
-        created_nanoseconds: 0,
+        changed: time,
+        created: time,
     };
     let after = count::card_after(card, gone, given);
     after.allocated

@@ -10,7 +10,7 @@ ghost use Rattle.format.specs.Records.{card_of, CardFits};
 ghost use Rattle.format.specs.Refusals.{number_in};
 ghost use Rattle.store.specs.Buffers.{one_card_more, enter_number, CardsRight, EnterReady};
 
-use format::card::{CARD_BYTES, Card};
+use format::card::{CARD_BYTES, Card, Time};
 use format::head::Head;
 use format::refusal::Refusal;
 
@@ -102,7 +102,11 @@ pub fn enter_card(
     requires { EnterReady head.old cards.old n (record { seconds = seconds; nanoseconds = nanoseconds }) }
     ensures { (head.new ≡ encode_head (one_card_more (decode_head head.old))) × (cards.new ≡ encode_book encode_card (length cards.old) (insert card_before (new_card object (record { seconds = seconds; nanoseconds = nanoseconds })) (decode_book decode_card card_bytes n cards.old))) }
 {
-    let c = format::card::new_card(object, seconds, nanoseconds);
+    let time = Time {
+        seconds,
+        nanoseconds,
+    };
+    let c = format::card::new_card(object, time);
     insert_card(cards, n, c);
     count_card(head);
 }

@@ -1,14 +1,15 @@
 -- `format::extent::Extent::covers` meets its contract.
 -- Assumes nothing.
-use borrow.Author.Rules.{rules}
-use Rattle.format.proofs.TestLaws.{covers-file, covers-early, covers-in}
+use Rattle.std.proofs.Common.{arith}
+use Rattle.std.proofs.lemmas.Grind.{common_steps}
+use Rattle.rules.specs.Extent.{covers, extent_end}
+use Rattle.format.specs.Records.{extent_of}
 use Rattle.format.proofs.extent.Extent.covers.Goals as goal
 
-pub returns-then-self-object : goal.returns-then-self-object
-returns-then-self-object c = search (covers-file, rules)
+pub returns-then-self-block : goal.returns-then-self-block
+unfolding covers extent_of extent_end
+returns-then-self-block c = grind (arith, common_steps)
 
-pub returns-then-block-self : goal.returns-then-block-self
-returns-then-block-self c = search (covers-early, rules)
-
-pub returns : goal.returns
-returns c = search (covers-in, rules)
+pub returns-else-self-block : goal.returns-else-self-block
+unfolding covers extent_of extent_end
+returns-else-self-block c = grind (arith, common_steps)
