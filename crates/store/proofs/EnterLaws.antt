@@ -1,19 +1,17 @@
--- Laws of the inner call enter: its tests by their numbers, and the card book and the head with one card more.
+-- Laws of the inner call enter: its tests by their numbers, and the card book with one card more.
 -- Assumes nothing.
 use mathlib.Core.Path.{◌≡◌, refl, sym, ap, ap₂, ◌∙◌}
 use mathlib.Core.Bool.{Bool, true, false}
 use mathlib.Core.List.{List, [], ◌∷◌, ◌++◌, append-nil}
-use Prim.Native.Nat.{ℕ, suc, ◌+◌, ◌-◌, ◌*◌, ◌/◌, ◌^◌, ◌≤◌, ◌<◌}
+use Prim.Native.Nat.{ℕ, ◌+◌, ◌*◌, ◌/◌, ◌^◌, ◌≤◌, ◌<◌}
 use native.Mathlib.Omega.{arith}
-use borrow.Author.Tests.{lt-ltb, le-ltb, le-leb, lt-leb}
-use lib.Dec.{leb, ltb}
+use borrow.Author.Tests.{le-leb, lt-leb}
+use lib.Dec.{leb}
 use lib.ListN.{length, take, drop}
 use lib.Seq.{take_all}
 use Rattle.rules.specs.Lists.{pick◌then◌else◌, given, all, find, insert, ascending}
-use Rattle.rules.specs.Sizes.{most_seconds, nanoseconds_bound}
 use Rattle.rules.specs.Bytes.{Bytes, patch, pieces}
 use Rattle.rules.specs.Time.{Time}
-use Rattle.rules.specs.Head.{Head, decode_head, encode_head}
 use Rattle.rules.specs.Card.{Card, card_bytes, decode_card, encode_card, card_spare_zero, card_before}
 use Rattle.rules.specs.Book.{decode_book, encode_book, book_places}
 use Rattle.rules.specs.Refusal.{number_of}
@@ -29,14 +27,13 @@ use Rattle.book.specs.Places.{found_in, leading, card_is, card_under, FoundFirst
 use Rattle.std.proofs.Common.{Option, Some, None}
 use Rattle.book.proofs.InsertLaws.{insert-leading, spliced-book}
 use Rattle.format.specs.declared.card.Card as struct
-use Rattle.format.specs.declared.head.Head as head
 use Rattle.std.specs.Prelude.{Ok, Err}
 use Rattle.std.specs.Option.{is_some}
 use Rattle.format.specs.declared.refusal.Refusal.TheVariants.{CardExists, BadTime, NoCardPlace}
 use Rattle.format.specs.Refusals.{number_in, refusal_of}
-use Rattle.format.specs.Records.{card_of, CardFits, head_of, HeadFits}
+use Rattle.format.specs.Records.{card_of, CardFits}
 use Rattle.format.proofs.RecordLaws.{card-in-range, fits_said}
-use Rattle.store.specs.Buffers.{enter_number, one_card_more, CardsRight}
+use Rattle.store.specs.Buffers.{enter_number, CardsRight}
 
 -- ---- the tests
 
@@ -94,16 +91,6 @@ module _ (n object : ℕ) (s : List ℕ) (time : Time) (f : Option ℕ) (h : Fou
         number-8 _ _ object time (found ∙ q) (sym e ∙ t) false
         (lt-leb (length s / card_bytes) (length (decode_book decode_card card_bytes n s)) (rw (length-decode_book decode_card card_bytes n s) l))
 
--- a time with too many seconds
-pub time-late : (time : Time) → most_seconds < time.seconds → ltb most_seconds time.seconds ≡ time_wrong time
-unfolding time_wrong
-time-late time l = rw (lt-ltb most_seconds time.seconds l) refl
-
--- else its nanoseconds decide
-pub time-part : (time : Time) (r : Bool) → time.seconds ≤ most_seconds → r ≡ leb nanoseconds_bound time.nanoseconds → r ≡ time_wrong time
-unfolding time_wrong
-time-part time r l e = rw (le-ltb most_seconds time.seconds l) e
-
 -- ---- the card book
 
 -- the struct of a new card fits
@@ -147,36 +134,3 @@ module _ (c : struct.Card) (o : c.object < 2 ^ 64) (f : CardFits c) (z x : List 
       spliced-book encode_card decode_card card_bytes card_spare_zero encode-decode_card n i 0 1 s x t w card-spare (omega (arith, l)) b h in
       let q : insert card_before (card_of c) cs ≡ take i cs ++ (card_of c ∷ []) ++ drop i cs = rw (p.0 r.order) (put_in cs) in
       m ∙ ap (encode_book encode_card (length s)) (rw (card-says, k, q) refl)
-
--- what was put in is the new card
-pub new-inserted : (c : struct.Card) (object : ℕ) (time : Time) (n : ℕ) (cs : List Card) (t : List ℕ) → card_of c ≡ new_card object time
-    → t ≡ encode_book encode_card n (insert card_before (card_of c) cs) → t ≡ encode_book encode_card n (insert card_before (new_card object time) cs)
-new-inserted c object time n cs t e q = q ∙ ap (λ (k : Card). encode_book encode_card n (insert card_before k cs)) e
-
--- ---- the head
-
-module _ (s : List ℕ) (h : head.Head) (e : head_of h ≡ decode_head s) where
-  -- it has room for one card more
-  pub more_room : (decode_head s).cards + 1 < 2 ^ 20 → h.cards + 1 < 2 ^ 20
-  unfolding head_of
-  more_room l = let c : h.cards ≡ (decode_head s).cards = ap (λ (k : Head). k.cards) e in omega (arith, l, c)
-
-  -- a head that counts one card more fits
-  pub more-fits : HeadFits h → (decode_head s).cards + 1 < 2 ^ 20
-      → HeadFits (record { uuid = h.uuid; blocks = h.blocks; reserved = h.reserved; hint = h.hint; cards = h.cards + 1; extents = h.extents; groups = h.groups })
-  more-fits f l = record { blocks = f.blocks; reserved = f.reserved; hint = f.hint; cards = more_room l; extents = f.extents; groups = f.groups }
-
-  -- its bytes
-  pub one_more : (t : List ℕ)
-      → t ≡ encode_head (head_of (record { uuid = h.uuid; blocks = h.blocks; reserved = h.reserved; hint = h.hint; cards = h.cards + 1; extents = h.extents; groups = h.groups }))
-      → t ≡ encode_head (one_card_more (decode_head s))
-  unfolding head_of one_card_more
-  one_more t q =
-      let k : h.cards + 1 ≡ suc h.cards = omega arith in
-      q ∙ ap (λ (n : ℕ). encode_head (record { uuid = h.uuid; blocks = h.blocks; reserved = h.reserved; hint = h.hint; cards = n; extents = h.extents; groups = h.groups })) k
-      ∙ ap (λ (g : Head). encode_head (record { uuid = g.uuid; blocks = g.blocks; reserved = g.reserved; hint = g.hint; cards = suc g.cards; extents = g.extents; groups = g.groups })) e
-
-  -- the number of cards that it counts
-  pub count_of : h.cards ≡ (decode_head s).cards
-  unfolding head_of
-  count_of = ap (λ (k : Head). k.cards) e

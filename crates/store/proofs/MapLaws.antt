@@ -12,12 +12,11 @@ use lib.Dec.{ltb}
 use lib.ListN.{length, take, replicate, length-replicate}
 use lib.Seq.{take_all}
 use Rattle.rules.specs.Lists.{count, range}
-use Rattle.rules.specs.Bytes.{Bytes, patch, bit_set, bit_bytes}
+use Rattle.rules.specs.Bytes.{Bytes, bit_set, bit_bytes}
 use Rattle.rules.specs.Head.{uuid_bytes, encode_head}
 use Rattle.rules.specs.Map.{map_bytes, encode_map}
 use Rattle.rules.proofs.ByteLaws.{bytes-replicate}
 use Rattle.rules.proofs.BitLaws.{length-bit_bytes, bytes-bit_bytes, bit_set-bit_bytes, bits-ext, bits-zero}
-use Rattle.words.proofs.NumberLaws.{patch-whole}
 use Rattle.bitmap.specs.Map.{with_bits}
 use Rattle.bitmap_pairs.specs.Pair.{only}
 use Rattle.format.specs.Records.{head_of}
@@ -67,10 +66,6 @@ less-map blocks u r t n e = e ∙ ap (λ (w : ℕ). bit_bytes w (λ k. bit_set u
 -- a count from 0 on
 pub count-from : (f : ℕ → Bool) (n r : ℕ) → r ≡ count f (range 0 (n - 0)) → r ≡ count f (range 0 n)
 count-from f n r e = let z : n - 0 ≡ n = omega arith in rw z at e
-
--- a buffer that was zeroed whole
-pub zeroed : (s t : List ℕ) → t ≡ patch s 0 (replicate (length s - 0) 0) → t ≡ replicate (length s) 0
-zeroed s t e = let z : length s - 0 ≡ length s = omega arith in e ∙ rw z (patch-whole s (replicate (length s) 0) (length-replicate {A = ℕ} (length s) 0))
 
 -- ---- the head
 

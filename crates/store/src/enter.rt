@@ -21,6 +21,7 @@ const MOST_SECONDS: u64 = 9223372036854775807;
 const NANOSECONDS_BOUND: u64 = 1000000000;
 
 // Whether a lent time is wrong: the case of refusal 7.
+#[tactic(auto, unfolding(rules::specs::Arguments::time_wrong))]
 pub fn time_wrong(seconds: u64, nanoseconds: u64) -> bool
     ensures { result ≡ time_wrong (record { seconds = seconds; nanoseconds = nanoseconds }) }
 {
@@ -28,7 +29,13 @@ pub fn time_wrong(seconds: u64, nanoseconds: u64) -> bool
 }
 
 // Refusal 4, 7 or 8 of a new file in a book of `n` cards.
-pub fn enter_refused(cards: &[u8], n: usize, object: u64, seconds: u64, nanoseconds: u64) -> Result<(), Refusal>
+pub fn enter_refused(
+    cards: &[u8],
+    n: usize,
+    object: u64,
+    seconds: u64,
+    nanoseconds: u64,
+) -> Result<(), Refusal>
     requires { card_bytes * n ≤ length cards.now }
     ensures { number_in result ≡ enter_number (decode_book decode_card card_bytes n cards.now) (book_places card_bytes cards.now) object (record { seconds = seconds; nanoseconds = nanoseconds }) }
 {
@@ -58,6 +65,7 @@ fn insert_card(cards: &mut [u8], n: usize, c: Card)
 }
 
 // A head that counts one card more.
+#[tactic(auto, unfolding(format::specs::Records::head_of, crate::specs::Buffers::one_card_more))]
 fn count_card(head: &mut [u8])
     requires { (length head.old ≡ head_bytes) × ((decode_head head.old).cards + 1 < 2 ^ 20) }
     ensures { head.new ≡ encode_head (one_card_more (decode_head head.old)) }
@@ -73,6 +81,7 @@ fn count_card(head: &mut [u8])
 }
 
 // The number of cards that a head counts.
+#[tactic(auto, unfolding(format::specs::Records::head_of))]
 pub fn card_count(head: &[u8]) -> usize
     requires { length head.now ≡ head_bytes }
     ensures { result ≡ (decode_head head.now).cards }

@@ -19,6 +19,7 @@ fn per_mille(used: u64, usable: u64) -> u64
 }
 
 // The number of blocks that a head says are reserved.
+#[tactic(auto, unfolding(format::specs::Records::head_of))]
 pub fn reserved_blocks(head: &[u8]) -> usize
     requires { length head.now ≡ head_bytes }
     ensures { result ≡ (decode_head head.now).reserved }

@@ -6,21 +6,13 @@ ghost use Rattle.store.specs.Buffers.{fresh_head};
 
 use format::head::Head;
 
-// Every byte of a buffer zero.
-pub fn zero_all(s: &mut [u8])
-    ensures { s.new ≡ replicate (length s.old) 0 }
-{
-    let n = s.len();
-    words::range::zero(s, 0, n);
-}
-
 // Every byte of the three books zero.
 pub fn fresh_books(cards: &mut [u8], extents: &mut [u8], groups: &mut [u8])
     ensures { (cards.new ≡ replicate (length cards.old) 0) × (extents.new ≡ replicate (length extents.old) 0) × (groups.new ≡ replicate (length groups.old) 0) }
 {
-    zero_all(cards);
-    zero_all(extents);
-    zero_all(groups);
+    cards.fill(0);
+    extents.fill(0);
+    groups.fill(0);
 }
 
 // A used map in which the first `reserved` of so many blocks are set.
@@ -28,7 +20,7 @@ fn fresh_used(used: &mut [u8], blocks: usize, reserved: usize)
     requires { (length used.old ≡ map_bytes blocks) × (reserved ≤ blocks) }
     ensures { used.new ≡ encode_map blocks (λ n. ltb n reserved) }
 {
-    zero_all(used);
+    used.fill(0);
     bitmap::set_range(used, 0, reserved);
 }
 
@@ -38,7 +30,7 @@ pub fn fresh_maps(used: &mut [u8], retired: &mut [u8], blocks: usize, reserved: 
     ensures { (used.new ≡ encode_map blocks (λ n. ltb n reserved)) × (retired.new ≡ encode_map blocks (λ n. false)) }
 {
     fresh_used(used, blocks, reserved);
-    zero_all(retired);
+    retired.fill(0);
 }
 
 // A head with hint 0 and no records.

@@ -4,8 +4,6 @@ ghost use Rattle.rules.specs.Lists.{count, range};
 ghost use Rattle.rules.specs.Bytes.{bit_set};
 ghost use Rattle.rules.specs.Map.{map_bytes, encode_map};
 
-use super::fresh::zero_all;
-
 // Both maps of so many blocks settled; the number of the retired blocks.
 pub fn settle_maps(used: &mut [u8], retired: &mut [u8], blocks: usize) -> u64
     requires { (length used.old ≡ map_bytes blocks) × (length retired.old ≡ map_bytes blocks) }
@@ -13,6 +11,6 @@ pub fn settle_maps(used: &mut [u8], retired: &mut [u8], blocks: usize) -> u64
 {
     let count = bitmap::count_set(retired, 0, blocks);
     bitmap_pairs::difference::clear_where(used, retired);
-    zero_all(retired);
+    retired.fill(0);
     count as u64
 }

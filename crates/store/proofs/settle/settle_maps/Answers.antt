@@ -12,4 +12,4 @@ pub clear_where-requires : goal.clear_where-requires
 clear_where-requires c = (map_whole _ _ c.requires.0, c.requires.1 ∙ sym c.requires.0)
 
 pub returns : goal.returns
-returns c = (count-from _ _ _ c.count_set-count.ensures, less-map _ _ _ _ c.requires.0 c.clear_where.ensures, zero-map _ _ _ c.requires.1 c.zero_all.ensures)
+returns c = (count-from _ _ _ c.count_set-count.ensures, less-map _ _ _ _ c.requires.0 c.clear_where.ensures, zero-map _ _ _ c.requires.1 (c.fill.ensures.after (λ y e. e)))
