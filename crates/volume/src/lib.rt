@@ -20,6 +20,7 @@ ghost use Rattle.rules.specs.Act.Act.{batch};
 ghost use Rattle.volume.specs.Call.{handed, gave};
 
 use format::sizes::BLOCK_BYTES;
+use lent::{Store, View};
 use write::{ARCHIVE_RUNS, MOST_RUNS};
 
 // A call's answer: 0 and a count, or the number of its refusal and 0.
@@ -46,9 +47,9 @@ pub fn sangueko_read(
 ) -> Answer
     ensures { handed result.number result.count (lent image.now head.now cards.now extents.now groups.now used.now retired.now) out.new ≡ call (look (read object offset out.old)) (lent image.now head.now cards.now extents.now groups.now used.now retired.now) }
 {
-    let number = intake::refused(image, head, cards, extents, groups, used, retired);
-    if number != 0 {
-        return Answer { number, count: 0 };
+    let seen = View { image, head, cards, extents, groups, used, retired };
+    if let Err(refusal) = intake::refused(&seen) {
+        return Answer { number: refusal.number(), count: 0 };
     }
     match read::read_file(image, head, cards, extents, groups, object, offset, out) {
         Ok(n) => Answer {
@@ -77,9 +78,9 @@ pub fn sangueko_read_many(
 ) -> Answer
     ensures { handed result.number result.count (lent image.now head.now cards.now extents.now groups.now used.now retired.now) out.new ≡ call (look (read_many list.now out.old)) (lent image.now head.now cards.now extents.now groups.now used.now retired.now) }
 {
-    let number = intake::refused(image, head, cards, extents, groups, used, retired);
-    if number != 0 {
-        return Answer { number, count: 0 };
+    let seen = View { image, head, cards, extents, groups, used, retired };
+    if let Err(refusal) = intake::refused(&seen) {
+        return Answer { number: refusal.number(), count: 0 };
     }
     let done = read_many::read_many(image, head, cards, extents, groups, list, out);
     Answer {
@@ -105,9 +106,9 @@ pub fn sangueko_data_stretches(
 ) -> Answer
     ensures { handed result.number result.count (lent image.now head.now cards.now extents.now groups.now used.now retired.now) out.new ≡ call (look (data_stretches object first units out.old)) (lent image.now head.now cards.now extents.now groups.now used.now retired.now) }
 {
-    let number = intake::refused(image, head, cards, extents, groups, used, retired);
-    if number != 0 {
-        return Answer { number, count: 0 };
+    let seen = View { image, head, cards, extents, groups, used, retired };
+    if let Err(refusal) = intake::refused(&seen) {
+        return Answer { number: refusal.number(), count: 0 };
     }
     match stretches::data_stretches(head, cards, groups, object, first, units, out) {
         Ok(count) => Answer { number: 0, count },
@@ -130,9 +131,9 @@ pub fn sangueko_fill(
 ) -> Answer
     ensures { gave result.number result.count (lent image.now head.now cards.now extents.now groups.now used.now retired.now) ≡ call (look fill) (lent image.now head.now cards.now extents.now groups.now used.now retired.now) }
 {
-    let number = intake::refused(image, head, cards, extents, groups, used, retired);
-    if number != 0 {
-        return Answer { number, count: 0 };
+    let seen = View { image, head, cards, extents, groups, used, retired };
+    if let Err(refusal) = intake::refused(&seen) {
+        return Answer { number: refusal.number(), count: 0 };
     }
     let reserved = store::fill::reserved_blocks(head);
     let count = store::fill::used_per_mille(used, reserved, image.len() / BLOCK_BYTES);
@@ -151,9 +152,9 @@ pub fn sangueko_settle(
 ) -> Answer
     ensures { gave result.number result.count (lent image.now head.now cards.now extents.now groups.now used.new retired.new) ≡ call settle (lent image.now head.now cards.now extents.now groups.now used.old retired.old) }
 {
-    let number = intake::refused(image, head, cards, extents, groups, used, retired);
-    if number != 0 {
-        return Answer { number, count: 0 };
+    let seen = View { image, head, cards, extents, groups, used, retired };
+    if let Err(refusal) = intake::refused(&seen) {
+        return Answer { number: refusal.number(), count: 0 };
     }
     let count = store::settle::settle_maps(used, retired, image.len() / BLOCK_BYTES);
     Answer { number: 0, count }
@@ -174,9 +175,9 @@ pub fn sangueko_enter(
 ) -> Answer
     ensures { gave result.number result.count (lent image.now head.new cards.new extents.now groups.now used.now retired.now) ≡ call (enter object (record { seconds = seconds; nanoseconds = nanoseconds })) (lent image.now head.old cards.old extents.now groups.now used.now retired.now) }
 {
-    let number = intake::refused(image, head, cards, extents, groups, used, retired);
-    if number != 0 {
-        return Answer { number, count: 0 };
+    let seen = View { image, head, cards, extents, groups, used, retired };
+    if let Err(refusal) = intake::refused(&seen) {
+        return Answer { number: refusal.number(), count: 0 };
     }
     let n = store::enter::card_count(head);
     let number = store::enter::enter_refused(cards, n, object, seconds, nanoseconds);
@@ -208,18 +209,13 @@ fn write_within(
 ) -> Answer
     ensures { gave result.number result.count (lent image.new head.new cards.new extents.new groups.new used.new retired.new) ≡ result_of (lent image.old head.old cards.old extents.old groups.old used.old retired.old) [] (write_outcome limit object offset bytes.now (record { seconds = seconds; nanoseconds = nanoseconds }) (lent image.old head.old cards.old extents.old groups.old used.old retired.old)) }
 {
-    let number = intake::refused(image, head, cards, extents, groups, used, retired);
-    if number != 0 {
-        return Answer { number, count: 0 };
+    let seen = View { image, head, cards, extents, groups, used, retired };
+    if let Err(refusal) = intake::refused(&seen) {
+        return Answer { number: refusal.number(), count: 0 };
     }
+    let mut store = Store { image, head, cards, extents, groups, used, retired };
     let done = write::write::write_file(
-        image,
-        head,
-        cards,
-        extents,
-        groups,
-        used,
-        retired,
+        &mut store,
         limit,
         object,
         offset,
@@ -318,18 +314,13 @@ pub fn sangueko_write_batch(
 ) -> Answer
     ensures { gave result.number result.count (lent image.new head.new cards.new extents.new groups.new used.new retired.new) ≡ act (batch list.now bytes.now (record { seconds = seconds; nanoseconds = nanoseconds })) (lent image.old head.old cards.old extents.old groups.old used.old retired.old) }
 {
-    let number = intake::refused(image, head, cards, extents, groups, used, retired);
-    if number != 0 {
-        return Answer { number, count: 0 };
+    let seen = View { image, head, cards, extents, groups, used, retired };
+    if let Err(refusal) = intake::refused(&seen) {
+        return Answer { number: refusal.number(), count: 0 };
     }
+    let mut store = Store { image, head, cards, extents, groups, used, retired };
     let written = batch::write_batch(
-        image,
-        head,
-        cards,
-        extents,
-        groups,
-        used,
-        retired,
+        &mut store,
         list,
         bytes,
         seconds,
@@ -357,18 +348,13 @@ pub fn sangueko_grow(
 ) -> Answer
     ensures { gave result.number result.count (lent image.new head.new cards.new extents.new groups.new used.new retired.new) ≡ call (grow object size (record { seconds = seconds; nanoseconds = nanoseconds })) (lent image.old head.old cards.old extents.old groups.old used.old retired.old) }
 {
-    let number = intake::refused(image, head, cards, extents, groups, used, retired);
-    if number != 0 {
-        return Answer { number, count: 0 };
+    let seen = View { image, head, cards, extents, groups, used, retired };
+    if let Err(refusal) = intake::refused(&seen) {
+        return Answer { number: refusal.number(), count: 0 };
     }
+    let mut store = Store { image, head, cards, extents, groups, used, retired };
     let number = write::grow::grow_file(
-        image,
-        head,
-        cards,
-        extents,
-        groups,
-        used,
-        retired,
+        &mut store,
         object,
         size,
         seconds,
