@@ -26,6 +26,7 @@ use Rattle.mapping.specs.Entries.{entry_of, entries, Inside}
 use Rattle.inspect.specs.declared.Inspected.{Inspected}
 use Rattle.inspect.specs.declared.Inspected.TheVariants.{Hole, Checked}
 use Rattle.std.proofs.Common.{Result, Ok, Err}
+use Rattle.std.specs.Int.{div_ceil}
 use Rattle.format.specs.Refusals.{refusal_of}
 use Rattle.format.specs.declared.refusal.Refusal.{Refusal}
 use Rattle.format.specs.declared.refusal.Refusal.TheVariants.{NoChecksum, NotBacked, NonzeroPastEnd, ChecksumDiffers}
@@ -35,14 +36,9 @@ use Rattle.inspect.specs.Answer.{Answers, unit_found, number_from}
 use Rattle.inspect.specs.Runs.{backed_bytes}
 use Rattle.inspect.proofs.BlockLaws.{take-map, drop-map}
 
--- a unit that the file fills, and the last one
-pub valid-whole : (size unit : ℕ) → unit_bytes < size - unit * unit_bytes → unit_bytes ≡ valid_length size unit
-unfolding valid_length
-valid-whole size unit l = omega arith
-
-pub valid-rest : (size unit : ℕ) → size - unit * unit_bytes ≤ unit_bytes → size - unit * unit_bytes ≡ valid_length size unit
-unfolding valid_length
-valid-rest size unit l = omega arith
+-- the blocks that so many bytes begin, as the code rounds them up
+pub rounded : {n : ℕ} (valid : ℕ) → n ≡ div_ceil valid block_bytes → n ≡ begun valid block_bytes
+rounded valid e = e ∙ omega arith
 
 -- a unit's valid length is at most its bytes, and not 0 where the unit begins before the file's end
 pub valid-most : (size unit valid : ℕ) → valid ≡ valid_length size unit → unit * unit_bytes < size → (0 < valid) × (valid ≤ unit_bytes)

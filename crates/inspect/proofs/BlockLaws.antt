@@ -10,12 +10,13 @@ use native.Mathlib.Omega.{arith}
 use lib.Dec.{eqb, ltb}
 use lib.ListN.{length, take, drop, get_or, length-append, length-map, length-drop, get_or-append, get_or-map}
 use lib.Seq.{get_or-append-add, get_or-take, length-take-le, take-add, take_all, ext_get_or}
-use borrow.Author.Tests.{eqb-true, ltb-true, lt-ltb, le-ltb}
+use borrow.Author.Tests.{ne_eqb, eqb-true, ltb-true, lt-ltb}
+use Rattle.std.specs.List.{list_any, list_all}
 use Rattle.rules.specs.Lists.{maybe, given, all, any, begun}
 use Rattle.rules.specs.Sizes.{block_bytes}
 use Rattle.rules.specs.Bytes.{part}
 use Rattle.rules.specs.Store.{block_at}
-use Rattle.rules.proofs.ListLaws.{test-cases, clash, all-at, all_of, any_at, any-index}
+use Rattle.rules.proofs.ListLaws.{all-at}
 use Rattle.rules.proofs.ByteLaws.{length_part, get_d_part}
 use Rattle.crc32c.specs.Unit.{UnitFed}
 use Rattle.crc32c.specs.declared.unit.Running.{Running}
@@ -227,42 +228,34 @@ unfolding given entry_of
 given-entry zero = refl
 given-entry (suc x) = sym (lt-ltb 0 (suc x) (omega arith))
 
+-- the test of the code is that one
+pub named-entry : (x : ℕ) → not (eqb x 0) ≡ given (entry_of x)
+unfolding given entry_of
+named-entry zero = refl
+named-entry (suc x) = ap not (ne_eqb (suc x) 0 (λ e. absurd (omega (arith, e))))
+
+-- so it is for some, and for all
+pub any-entries : (xs : List ℕ) → list_any (λ x. not (eqb x 0)) xs ≡ any given (entries xs)
+unfolding any entries
+any-entries [] = refl
+any-entries (x ∷ xs) = rw (named-entry x, any-entries xs) refl
+
+pub all-entries : (xs : List ℕ) → list_all (λ x. not (eqb x 0)) xs ≡ all given (entries xs)
+unfolding all entries
+all-entries [] = refl
+all-entries (x ∷ xs) = rw (named-entry x, all-entries xs) refl
+
+-- and for all of the first
+pub all-first : (n : ℕ) (xs : List ℕ) → list_all (λ x. not (eqb x 0)) (take n xs) ≡ all given (take n (entries xs))
+unfolding entries
+all-first n xs = all-entries (take n xs) ∙ ap (all given) (sym (take-map entry_of n xs))
+
 -- the same of the entry at a place
 given-at : (blocks : List ℕ) (i : ℕ) → given (get_or (entries blocks) i none) ≡ ltb 0 (get_or blocks i 0)
 unfolding entries entry_of
 given-at blocks i = ap given (get_or-map entry_of blocks i 0) ∙ given-entry (get_or blocks i 0)
 
 module _ (blocks : List ℕ) where
-  -- one that does was found
-  pub some_mapped : (i : ℕ) → i < length blocks → (get_or blocks i 0 ≡ 0 → ⊥) → true ≡ any given (entries blocks)
-  unfolding entries
-  some_mapped i l h =
-      sym (any_at given (map entry_of blocks) i none (simp length-map l) (given-at blocks i ∙ lt-ltb 0 (get_or blocks i 0) (omega (arith, h))))
-
-  -- none was found
-  pub none-mapped : (i : ℕ) → length blocks ≤ i → ((j : ℕ) → j < i → get_or blocks j 0 ≡ 0) → false ≡ any given (entries blocks)
-  unfolding entries
-  none-mapped i l h = test-cases _ (any given (map entry_of blocks))
-      (λ t. let r = any-index given (map entry_of blocks) none t in
-      let q : r.0 < length blocks = simp length-map at r.1 in
-      absurd (clash (le-ltb 0 (get_or blocks r.0 0) (omega (arith, h r.0 (omega arith)))) (sym (given-at blocks r.0) ∙ r.2))) (λ t. sym t)
-
-  -- one that does not was found
-  pub not-mapped : (n i : ℕ) → i < n → n ≤ length blocks → get_or blocks i 0 ≡ 0 → false ≡ all given (take n (entries blocks))
-  unfolding entries
-  not-mapped n i l m e = test-cases _ (all given (take n (map entry_of blocks)))
-      (λ t. let k : length (take n (map entry_of blocks)) ≡ n = length-take-le n (map entry_of blocks) (simp length-map m) in
-      absurd (clash (le-ltb 0 (get_or blocks i 0) (omega arith))
-      (sym (given-at blocks i) ∙ ap given (sym (get_or-take n (map entry_of blocks) i none l)) ∙ all-at given (take n (map entry_of blocks)) t i none (omega arith)))) (λ t. sym t)
-
-  -- each does
-  pub all-mapped : (n i : ℕ) → n ≤ i → n ≤ length blocks → ((j : ℕ) → j < i → 0 < get_or blocks j 0) → true ≡ all given (take n (entries blocks))
-  unfolding entries
-  all-mapped n i l m h =
-      let k : length (take n (map entry_of blocks)) ≡ n = length-take-le n (map entry_of blocks) (simp length-map m) in
-      sym (all_of given (take n (map entry_of blocks)) none
-      (λ j q. ap given (get_or-take n (map entry_of blocks) j none (omega arith)) ∙ given-at blocks j ∙ lt-ltb 0 (get_or blocks j 0) (h j (omega arith))))
-
   -- so they are there where the test passes
   pub mapped-backed : (image : List ℕ) (n : ℕ) (b : Bool) → Inside image blocks → n ≤ length blocks → b ≡ all given (take n (entries blocks)) → not b ≡ false → Backed image blocks n
   unfolding entries
@@ -275,19 +268,3 @@ module _ (blocks : List ℕ) where
         inside = s.each;
         most = m;
       }
-
-  -- one more that does not name a block
-  pub zeros-more : (i : ℕ) → ((j : ℕ) → j < i → get_or blocks j 0 ≡ 0) → get_or blocks i 0 ≡ 0 → (j : ℕ) → j < i + 1 → get_or blocks j 0 ≡ 0
-  zeros-more i h e j l = go (dec_lt j i)
-    where
-      go : Dec (j < i) → get_or blocks j 0 ≡ 0
-      go (yes q) = h j q
-      go (no q) = let d : j ≡ i = omega arith in rw d e
-
-  -- one more that does
-  pub named_more : (i : ℕ) → ((j : ℕ) → j < i → 0 < get_or blocks j 0) → (get_or blocks i 0 ≡ 0 → ⊥) → (j : ℕ) → j < i + 1 → 0 < get_or blocks j 0
-  named_more i h e j l = go (dec_lt j i)
-    where
-      go : Dec (j < i) → 0 < get_or blocks j 0
-      go (yes q) = h j q
-      go (no q) = let d : j ≡ i = omega arith in rw d (omega (arith, e))

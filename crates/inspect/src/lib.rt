@@ -20,7 +20,7 @@ ghost use Rattle.inspect.specs.Answer.{Answers};
 ghost use Rattle.inspect.specs.Runs.{Backed, Run, backed_bytes, bytes_before};
 
 use format::refusal::Refusal;
-use format::sizes::UNIT_BLOCKS;
+use format::sizes::{BLOCK_BYTES, UNIT_BLOCKS, UNIT_BYTES};
 
 // What a unit that is read is, where it is not refused: a hole; or checked, its bytes right where they stand.
 #[derive(Clone, Copy)]
@@ -34,25 +34,15 @@ fn valid_length(size: u64, unit: u64) -> usize
     requires { unit * unit_bytes < size }
     ensures { result ≡ valid_length size unit }
 {
-    let left = size - unit * 65536;
-    if 65536 < left {
-        return 65536;
-    }
-    left as usize
+    let left = size - unit * UNIT_BYTES as u64;
+    left.min(UNIT_BYTES as u64) as usize
 }
 
 // Whether one of the entries names a block.
 fn any_mapped(blocks: &[u32]) -> bool
     ensures { result ≡ any given (entries blocks.now) }
 {
-    let mut i: usize = 0;
-    while i < blocks.len() {
-        if blocks[i] != 0 {
-            return true;
-        }
-        i += 1;
-    }
-    false
+    blocks.iter().any(|b| *b != 0)
 }
 
 // Whether each of the first `n` does.
@@ -60,14 +50,7 @@ fn all_mapped(blocks: &[u32], n: usize) -> bool
     requires { n ≤ length blocks.now }
     ensures { result ≡ all given (take n (entries blocks.now)) }
 {
-    let mut i: usize = 0;
-    while i < n {
-        if blocks[i] == 0 {
-            return false;
-        }
-        i += 1;
-    }
-    true
+    blocks[..n].iter().all(|b| *b != 0)
 }
 
 // Where the block that an entry names starts in the image.
@@ -75,7 +58,7 @@ fn block_start(entry: u32) -> usize
     requires { 0 < entry }
     ensures { result ≡ (entry - 1) * block_bytes }
 {
-    (entry - 1) as usize * 4096
+    (entry - 1) as usize * BLOCK_BYTES
 }
 
 // Whether entry `b` names the block behind that of `a`.
@@ -90,14 +73,12 @@ fn run_end(blocks: &[u32], i: usize, n: usize) -> usize
     requires { (i < n) × (n ≤ length blocks.now) }
     ensures { (i < result) × (result ≤ n) × Run blocks.now i result }
 {
-    let mut e = i + 1;
-    while e < n {
+    for e in i + 1..n {
         if !adjoins(blocks[e - 1], blocks[e]) {
             return e;
         }
-        e += 1;
     }
-    e
+    n
 }
 
 // How many valid bytes the blocks from place `i` up to `e` have.
@@ -105,11 +86,7 @@ fn run_bytes(valid: usize, i: usize, e: usize) -> usize
     requires { (i < e) × (e ≤ begun valid block_bytes) × (valid ≤ unit_bytes) }
     ensures { result ≡ min (e * block_bytes) valid - i * block_bytes }
 {
-    let stop = e * 4096;
-    if valid < stop {
-        return valid - i * 4096;
-    }
-    stop - i * 4096
+    valid.min(e * BLOCK_BYTES) - i * BLOCK_BYTES
 }
 
 // The state after the valid bytes of the run from place `i` up to `e`.
@@ -154,6 +131,7 @@ fn feed_blocks(
 {
     let mut fed = state;
     let mut i: usize = 0;
+    // Kept: the place jumps to where a run ends, which the entries say.
     while i < n {
         let e = run_end(blocks, i, n);
         fed = feed_run(t, w, fed, image, blocks, n, valid, i, e);
@@ -194,7 +172,11 @@ fn zero_past(image: &[u8], blocks: &[u32], n: usize, valid: usize) -> bool
 {
     let last = n - 1;
     let start = block_start(blocks[last]);
-    words::range::is_zero(image, start + (valid - last * 4096), start + 4096)
+    words::range::is_zero(
+        image,
+        start + (valid - last * BLOCK_BYTES),
+        start + BLOCK_BYTES,
+    )
 }
 
 // A unit that has the checksum `crc`: refusals 10 to 12 in their order.
@@ -217,7 +199,7 @@ fn slot_checked(
     ensures { Answers result (slot_mapped image.now uuid.now object size unit (entries blocks.now) crc) }
 {
     let valid = valid_length(size, unit);
-    let n = (valid + 4095) / 4096;
+    let n = valid.div_ceil(BLOCK_BYTES);
     if !all_mapped(blocks, n) {
         return Err(Refusal::NotBacked);
     }

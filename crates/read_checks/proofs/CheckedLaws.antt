@@ -5,7 +5,7 @@ use mathlib.Core.Bool.{true, false, ◌||◌}
 use mathlib.Core.List.{List, ◌++◌, map, flat_map}
 use mathlib.Core.Option as maybe
 use mathlib.Core.Option.{none}
-use Prim.Native.Nat.{ℕ, zero, suc, ◌+◌, ◌-◌, ◌*◌, ◌/◌, ◌≤◌, ◌<◌}
+use Prim.Native.Nat.{ℕ, zero, suc, ◌+◌, ◌*◌, ◌/◌, ◌≤◌, ◌<◌}
 use native.Mathlib.Decide.{ℕ_discrete}
 use native.Mathlib.Omega.{arith}
 use lib.Dec.{eqb}
@@ -27,7 +27,7 @@ use Rattle.triples.proofs.TripleLaws.{from_start, from-here, from_end}
 use Rattle.std.proofs.Common.{Option, Some, None}
 use Rattle.book.specs.Places.{record_at, found_in, FoundFirst, card_is}
 use Rattle.read_checks.specs.Reads.{Looked, first_number, unit_number, units_read, pairs_read, sized_number, card_in, read_number, pairs_touched, pair_is, pairs_before, new_units, SizeIs}
-use Rattle.read_checks.specs.Checked.{Earlier, ReadChecked, ListChecked}
+use Rattle.read_checks.specs.Checked.{Earlier, UnitsChecked, ReadChecked, ListChecked}
 use Rattle.read_checks.proofs.PairLaws.{pair-among, pair-other, different-read}
 use Rattle.read_checks.proofs.NumberLaws.{before_more}
 use Rattle.read_checks.proofs.StretchLaws.{first-none, first-pass, first-stop, first-all}
@@ -130,9 +130,9 @@ module _ (head cards list : List ℕ) (n i : ℕ) (d : n ≡ (decode_head head).
 
 -- ---- one read
 
-module _ (b : Looked) (cards list sizes : List ℕ) (i made : ℕ) where
+module _ (b : Looked) (cards list sizes : List ℕ) (i : ℕ) where
   -- a read whose card is missing
-  pub checked-none : 3 ≡ read_number b cards (triple_at list i) → ReadChecked b cards list sizes i made sizes 3 made
+  pub checked-none : 3 ≡ read_number b cards (triple_at list i) → ReadChecked b cards list sizes i sizes 3 0
   checked-none e = record {
     number = e;
     room = refl;
@@ -144,17 +144,18 @@ module _ (b : Looked) (cards list sizes : List ℕ) (i made : ℕ) where
 
   -- one whose units were checked, and its size noted
   pub checked-some : (size r c : ℕ) → i < length sizes → SizeIs b.head cards (triple_at list i) size
-      → (r ≡ sized_number b (triple_at list i) size) × (r ≡ 0 → c ≡ made + new_units (pairs_before list sizes i) (triple_at list i).object (units_read (triple_at list i) size)) × (c ≤ made + 17)
-      → ReadChecked b cards list sizes i made (set sizes i size) r c
+      → UnitsChecked b (triple_at list i).object size (units_read (triple_at list i) size) (pairs_before list sizes i) 17 r c
+      → ReadChecked b cards list sizes i (set sizes i size) r c
   checked-some size r c l s x =
       let g : get_or (set sizes i size) i 0 ≡ size = get_or-set_same sizes i size 0 l in
+      let d : sized_number b (triple_at list i) size ≡ first_number (unit_number b (triple_at list i).object size) (units_read (triple_at list i) size) = unfold sized_number in refl in
       record {
-        number = x.0 ∙ sym (number-sized b cards (triple_at list i) size s);
+        number = x.number ∙ sym (number-sized b cards (triple_at list i) size s ∙ d);
         room = length-set sizes i size;
         kept = λ j m. get_or-set_other sizes i j size 0 (λ e. absurd (omega (arith, m, e)));
         noted = λ z. rw g s;
-        count = λ z. rw g (x.1 z);
-        most = x.2;
+        count = λ z. rw g (x.count z);
+        most = x.most;
       }
 
 -- ---- the list
@@ -181,7 +182,7 @@ module _ (b : Looked) (cards list : List ℕ) where
       nothing : 0 ≡ different (pairs_before list sizes 0)
       nothing = unfold pairs_before range flat_map different in refl
 
-  module _ (sizes : List ℕ) (i made : ℕ) (h : ListPassed sizes i made) (left : List ℕ) (r c : ℕ) (x : ReadChecked b cards list sizes i made left r c) (l : i < length list / triple_bytes) where
+  module _ (sizes : List ℕ) (i made : ℕ) (h : ListPassed sizes i made) (left : List ℕ) (r c : ℕ) (x : ReadChecked b cards list sizes i left r c) (l : i < length list / triple_bytes) where
     -- the next is refused
     pub list-stop : (r ≡ 0 → ⊥) → ListChecked b cards list left r c
     list-stop z = record {
@@ -196,7 +197,7 @@ module _ (b : Looked) (cards list : List ℕ) where
     before-kept = flat_map-each (λ j. pairs_read (triple_at list j) (get_or left j 0)) (λ j. pairs_read (triple_at list j) (get_or sizes j 0)) (each_weaken (λ j m. ap (pairs_read (triple_at list j)) (x.kept j (omega (arith, m.1)))) (each-range 0 i))
 
     -- the next passes
-    pub list-more : r ≡ 0 → ListPassed left (i + 1) c
+    pub list-more : r ≡ 0 → ListPassed left (i + 1) (made + c)
     list-more z = record {
       room = x.room ∙ h.room;
       earlier = record { right = right; noted = noted };
@@ -219,12 +220,12 @@ module _ (b : Looked) (cards list : List ℕ) where
             go (yes e) = rw e (x.noted z)
             go (no d) = let k : j < i = omega (arith, m, d) in rw (x.kept j k) (h.earlier.noted j k)
 
-        counted : c ≡ different (pairs_before list left (i + 1))
+        counted : made + c ≡ different (pairs_before list left (i + 1))
         counted =
             let n : ℕ = get_or left i 0 in
             let w : different (pairs_before list sizes i ++ pairs_read (triple_at list i) n) ≡ different (pairs_before list sizes i) + new_units (pairs_before list sizes i) (triple_at list i).object (units_read (triple_at list i) n) = different-read (pairs_before list sizes i) (triple_at list i) n in
             let y : pairs_before list left (i + 1) ≡ pairs_before list sizes i ++ pairs_read (triple_at list i) n = before_more list left i ∙ ap (λ (ps : List Pair). ps ++ pairs_read (triple_at list i) n) before-kept in
-            x.count z ∙ ap (λ (k : ℕ). k + new_units (pairs_before list sizes i) (triple_at list i).object (units_read (triple_at list i) n)) h.counted ∙ sym (ap different y ∙ w)
+            omega (arith, x.count z, h.counted, w, ap different y)
 
   -- what the reads from a place on touch, by their places
   touched-from : (f : Triple → List Pair) (n i : ℕ) → i + n ≡ length list / triple_bytes → flat_map f (triples_from list i) ≡ flat_map (λ j. f (triple_at list j)) (range i n)

@@ -5,7 +5,7 @@
 #![tactic(auto)]
 
 ghost use Rattle.std.specs.Prelude.{◌≡◌, true, ℕ, ◌+◌, ◌*◌, ◌/◌, ◌^◌, ◌≤◌, ◌<◌, length};
-ghost use Rattle.rules.specs.Lists.{pick◌then◌else◌, any, range};
+ghost use Rattle.rules.specs.Lists.{any, range};
 ghost use Rattle.rules.specs.Sizes.{unit_bytes};
 ghost use Rattle.rules.specs.Head.{head_bytes, decode_head};
 ghost use Rattle.rules.specs.Triples.{triple_bytes, most_triples};
@@ -14,19 +14,14 @@ ghost use Rattle.crc32c_tables.specs.Register.{Tables};
 ghost use Rattle.read.specs.Range.{Readable};
 ghost use Rattle.read.specs.Gives.{ReadReady};
 ghost use Rattle.triples.specs.Triple.{triple_at};
-ghost use Rattle.read_checks.specs.Reads.{looked, first_number, unit_number, units_read, pairs_read, sized_number, pair_is, pairs_before, new_units};
-ghost use Rattle.read_checks.specs.Checked.{Earlier, ReadChecked, ListChecked};
+ghost use Rattle.format.specs.Refusals.{number_in, count_in};
+ghost use Rattle.read_checks.specs.Reads.{looked, unit_number, units_read, pairs_read, pair_is, pairs_before};
+ghost use Rattle.read_checks.specs.Checked.{Earlier, NewChecked, UnitsChecked, ReadChecked, ListChecked};
 
 use format::card::CARD_BYTES;
+use format::refusal::Refusal;
 use format::sizes::{UNIT_BLOCKS, UNIT_BYTES};
 use triples::{MOST_TRIPLES, TRIPLE_BYTES};
-
-// What checking found: the number of a refusal, or 0, and how many units have been inspected by then.
-#[derive(Clone, Copy)]
-pub struct Checks {
-    pub number: u32,
-    pub made: u64,
-}
 
 // Whether `unit` is one of those that the read at place `j`, of a file of this size, touches, and `object` its file.
 fn in_read(list: &[u8], j: usize, size: u64, object: u64, unit: u64) -> bool
@@ -53,17 +48,15 @@ fn seen_before(list: &[u8], sizes: &[u64], i: usize, object: u64, unit: u64) -> 
     requires { (triple_bytes * i ≤ length list.now) × (i ≤ length sizes.now) }
     ensures { result ≡ any (same_pair (pair_is object unit)) (pairs_before list.now sizes.now i) }
 {
-    let mut j: usize = 0;
-    while j < i {
+    for j in 0..i {
         if in_read(list, j, sizes[j], object, unit) {
             return true;
         }
-        j += 1;
     }
     false
 }
 
-// A unit inspected, one inspection more.
+// A unit inspected.
 fn check_unit(
     t: &[u32; 4096],
     w: &mut [u8],
@@ -74,42 +67,34 @@ fn check_unit(
     object: u64,
     size: u64,
     unit: u64,
-    made: u64,
-) -> Checks
+) -> Result<(), Refusal>
     requires tables { Tables t.now }
     requires w_len { length w.old ≡ 4624 }
     requires head_len { length head.now ≡ head_bytes }
     requires readable { Readable image.now extents.now groups.now (decode_head head.now).extents (decode_head head.now).groups }
     requires unit_bytes_bound { unit * unit_bytes < size }
-    requires made_bound { made + 1 < 2 ^ 64 }
-    ensures { (result.number ≡ unit_number (looked image.now head.now extents.now groups.now) object size unit) × (result.made ≡ made + 1) }
+    ensures { number_in result ≡ unit_number (looked image.now head.now extents.now groups.now) object size unit }
 {
     let h = format::head::decode_head(head);
     let uuid = h.uuid;
+    let e = h.extents as usize;
+    let g = h.groups as usize;
     let mut blocks = [0u32; UNIT_BLOCKS];
-    let answer = read::check_range(
+    read::check_range(
         t,
         w,
         image,
         &uuid,
         extents,
-        h.extents as usize,
+        e,
         groups,
-        h.groups as usize,
+        g,
         object,
         size,
         unit,
         1,
         &mut blocks,
-    );
-    let number = match answer {
-        Ok(()) => 0,
-        Err(r) => r.number(),
-    };
-    Checks {
-        number,
-        made: made + 1,
-    }
+    )
 }
 
 // A unit of the read at place `i`, inspected where no read before touches it: else it was right.
@@ -126,22 +111,21 @@ fn check_new(
     object: u64,
     size: u64,
     unit: u64,
-    made: u64,
-) -> Checks
+) -> Result<u64, Refusal>
     requires tables { Tables t.now }
     requires w_len { length w.old ≡ 4624 }
     requires head_len { length head.now ≡ head_bytes }
     requires readable { Readable image.now extents.now groups.now (decode_head head.now).extents (decode_head head.now).groups }
     requires i_in_bounds { (triple_bytes * i ≤ length list.now) × (i ≤ length sizes.now) }
     requires unit_bytes_bound { unit * unit_bytes < size }
-    requires made_bound { made + 1 < 2 ^ 64 }
     requires unit_value { any (same_pair (pair_is object unit)) (pairs_before list.now sizes.now i) ≡ true → unit_number (looked image.now head.now extents.now groups.now) object size unit ≡ 0 }
-    ensures { (result.number ≡ unit_number (looked image.now head.now extents.now groups.now) object size unit) × (result.made ≡ made + (pick any (same_pair (pair_is object unit)) (pairs_before list.now sizes.now i) then 0 else 1)) }
+    ensures { NewChecked (looked image.now head.now extents.now groups.now) object size unit (pairs_before list.now sizes.now i) (number_in result) (count_in result) }
 {
     if seen_before(list, sizes, i, object, unit) {
-        return Checks { number: 0, made };
+        return Ok(0);
     }
-    check_unit(t, w, image, head, extents, groups, object, size, unit, made)
+    check_unit(t, w, image, head, extents, groups, object, size, unit)?;
+    Ok(1)
 }
 
 // The `k` units from `first` on of the read at place `i`.
@@ -159,46 +143,24 @@ fn check_stretch(
     size: u64,
     first: u64,
     k: usize,
-    made: u64,
-) -> Checks
+) -> Result<u64, Refusal>
     requires tables { Tables t.now }
     requires w_len { length w.old ≡ 4624 }
     requires head_len { length head.now ≡ head_bytes }
     requires readable { Readable image.now extents.now groups.now (decode_head head.now).extents (decode_head head.now).groups }
     requires i_in_bounds { (triple_bytes * i ≤ length list.now) × (i ≤ length sizes.now) }
     requires unit_bytes_bound { (first + k) * unit_bytes < size + unit_bytes }
-    requires k_bound { made + k < 2 ^ 64 }
     requires by_index { (u : ℕ) → any (same_pair (pair_is object u)) (pairs_before list.now sizes.now i) ≡ true → unit_number (looked image.now head.now extents.now groups.now) object size u ≡ 0 }
-    ensures { (result.number ≡ first_number (unit_number (looked image.now head.now extents.now groups.now) object size) (range first k)) × (result.number ≡ 0 → result.made ≡ made + new_units (pairs_before list.now sizes.now i) object (range first k)) × (result.made ≤ made + k) }
+    ensures { UnitsChecked (looked image.now head.now extents.now groups.now) object size (range first k) (pairs_before list.now sizes.now i) k (number_in result) (count_in result) }
 {
-    let mut now_made = made;
-    let mut j: usize = 0;
-    while j < k {
-        let r = check_new(
-            t,
-            w,
-            image,
-            head,
-            extents,
-            groups,
-            list,
-            sizes,
-            i,
-            object,
-            size,
-            first + j as u64,
-            now_made,
-        );
-        if r.number != 0 {
-            return r;
-        }
-        now_made = r.made;
-        j += 1;
+    let mut made: u64 = 0;
+    for j in 0..k {
+        let unit = first + j as u64;
+        made += check_new(
+            t, w, image, head, extents, groups, list, sizes, i, object, size, unit,
+        )?;
     }
-    Checks {
-        number: 0,
-        made: now_made,
-    }
+    Ok(made)
 }
 
 // The read at place `i`, of a file of this size.
@@ -213,21 +175,19 @@ fn check_sized(
     sizes: &[u64],
     i: usize,
     size: u64,
-    made: u64,
-) -> Checks
+) -> Result<u64, Refusal>
     requires tables { Tables t.now }
     requires w_len { length w.old ≡ 4624 }
     requires head_len { length head.now ≡ head_bytes }
     requires readable { Readable image.now extents.now groups.now (decode_head head.now).extents (decode_head head.now).groups }
     requires triple_bytes_in_bounds { (triple_bytes * i + triple_bytes ≤ length list.now) × (i ≤ length sizes.now) }
-    requires made_bound { made + 17 < 2 ^ 64 }
     requires by_index { (u : ℕ) → any (same_pair (pair_is (triple_at list.now i).object u)) (pairs_before list.now sizes.now i) ≡ true → unit_number (looked image.now head.now extents.now groups.now) (triple_at list.now i).object size u ≡ 0 }
-    ensures { (result.number ≡ sized_number (looked image.now head.now extents.now groups.now) (triple_at list.now i) size) × (result.number ≡ 0 → result.made ≡ made + new_units (pairs_before list.now sizes.now i) (triple_at list.now i).object (units_read (triple_at list.now i) size)) × (result.made ≤ made + 17) }
+    ensures { UnitsChecked (looked image.now head.now extents.now groups.now) (triple_at list.now i).object size (units_read (triple_at list.now i) size) (pairs_before list.now sizes.now i) 17 (number_in result) (count_in result) }
 {
     let x = triples::triple_at(list, i);
     let n = read::read_length(size, x.offset, x.len as usize);
     if n == 0 {
-        return Checks { number: 0, made };
+        return Ok(0);
     }
     let k = read::units_touched(x.offset, n);
     check_stretch(
@@ -244,7 +204,6 @@ fn check_sized(
         size,
         x.offset / UNIT_BYTES as u64,
         k,
-        made,
     )
 }
 
@@ -261,28 +220,24 @@ fn check_read(
     list: &[u8],
     sizes: &mut [u64],
     i: usize,
-    made: u64,
-) -> Checks
+) -> Result<u64, Refusal>
     requires tables { Tables t.now }
     requires w_len { length w.old ≡ 4624 }
     requires read_ready { ReadReady image.now head.now cards.now extents.now groups.now }
     requires n_value { n ≡ (decode_head head.now).cards }
     requires triple_bytes_in_bounds { (triple_bytes * i + triple_bytes ≤ length list.now) × (i < most_triples) × (length sizes.old ≡ most_triples) }
-    requires made_bound { made + 17 < 2 ^ 64 }
     requires earlier { Earlier (looked image.now head.now extents.now groups.now) cards.now list.now sizes.old i }
-    ensures { ReadChecked (looked image.now head.now extents.now groups.now) cards.now list.now sizes.old i made sizes.new result.number result.made }
+    ensures { ReadChecked (looked image.now head.now extents.now groups.now) cards.now list.now sizes.old i sizes.new (number_in result) (count_in result) }
 {
     let x = triples::triple_at(list, i);
     match book::find::find_card(cards, n, x.object) {
         Some(c) => {
             let size = format::card::card_size(cards, CARD_BYTES * c);
-            let r = check_sized(
-                t, w, image, head, extents, groups, list, sizes, i, size, made,
-            );
+            let r = check_sized(t, w, image, head, extents, groups, list, sizes, i, size);
             sizes[i] = size;
             r
         }
-        None => Checks { number: 3, made },
+        None => Err(Refusal::NoCard),
     }
 }
 
@@ -298,28 +253,19 @@ fn check_reads(
     groups: &[u8],
     list: &[u8],
     sizes: &mut [u64],
-) -> Checks
+) -> Result<u64, Refusal>
     requires tables { Tables t.now }
     requires w_len { length w.old ≡ 4624 }
     requires read_ready { ReadReady image.now head.now cards.now extents.now groups.now }
     requires n_value { n ≡ (decode_head head.now).cards }
     requires triple_bytes_len_bound { (length list.now / triple_bytes ≤ most_triples) × (length sizes.old ≡ most_triples) }
-    ensures { ListChecked (looked image.now head.now extents.now groups.now) cards.now list.now sizes.new result.number result.made }
+    ensures { ListChecked (looked image.now head.now extents.now groups.now) cards.now list.now sizes.new (number_in result) (count_in result) }
 {
-    let m = list.len() / TRIPLE_BYTES;
     let mut made: u64 = 0;
-    let mut i: usize = 0;
-    while i < m {
-        let r = check_read(
-            t, w, image, head, cards, n, extents, groups, list, sizes, i, made,
-        );
-        if r.number != 0 {
-            return r;
-        }
-        made = r.made;
-        i += 1;
+    for i in 0..list.len() / TRIPLE_BYTES {
+        made += check_read(t, w, image, head, cards, n, extents, groups, list, sizes, i)?;
     }
-    Checks { number: 0, made }
+    Ok(made)
 }
 
 // The same, with the tables of the checksum and its window. The sizes of the files are left in `sizes`, a place for each read.
@@ -331,10 +277,10 @@ pub fn check_list(
     groups: &[u8],
     list: &[u8],
     sizes: &mut [u64],
-) -> Checks
+) -> Result<u64, Refusal>
     requires read_ready { ReadReady image.now head.now cards.now extents.now groups.now }
     requires triple_bytes_len_bound { (length list.now / triple_bytes ≤ most_triples) × (length sizes.old ≡ most_triples) }
-    ensures { ListChecked (looked image.now head.now extents.now groups.now) cards.now list.now sizes.new result.number result.made }
+    ensures { ListChecked (looked image.now head.now extents.now groups.now) cards.now list.now sizes.new (number_in result) (count_in result) }
 {
     let t = crc32c_tables::tables();
     let mut w = [0u8; 4624];

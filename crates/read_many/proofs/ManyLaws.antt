@@ -32,16 +32,6 @@ use Rattle.read_many.proofs.PieceLaws.{read_out}
 -- ---- the test of the list
 
 module _ (list out : List ℕ) where
-  -- a list that is wrong by itself
-  pub wrong-list : (m : Bool) → m ≡ list_wrong list → m ≡ true → true ≡ reads_wrong list out
-  unfolding reads_wrong
-  wrong-list m e t = let h : list_wrong list ≡ true = sym e ∙ t in rw h refl
-
-  -- one whose lengths decide
-  pub wrong-lengths : (m r : Bool) → m ≡ list_wrong list → m ≡ false → r ≡ ltb (length out) (lengths_of (decode_triples list)) → r ≡ reads_wrong list out
-  unfolding reads_wrong
-  wrong-lengths m r e t h = let g : list_wrong list ≡ false = sym e ∙ t in rw g h
-
   module _ (r : Bool) (e : r ≡ reads_wrong list out) (t : r ≡ false) where
     -- a list that is right has few triples
     pub few-triples : length list / triple_bytes ≤ most_triples

@@ -4,24 +4,20 @@
 ghost use Rattle.std.specs.Prelude.{◌≡◌, ◌/◌, ◌≤◌, length};
 ghost use Rattle.rules.specs.Triples.{triple_bytes, most_triples, decode_triples, lengths_of};
 ghost use Rattle.rules.specs.ReadMany.{reads_wrong};
+ghost use Rattle.format.specs.Refusals.{number_in, count_in};
 ghost use Rattle.read.specs.Gives.{gives, ReadReady};
 ghost use Rattle.read_checks.specs.Reads.{looked};
 ghost use Rattle.read_many.specs.Many.{gives_all, gives_many};
 
-use read_checks::Checks;
+use format::refusal::Refusal;
 use triples::MOST_TRIPLES;
 
-// The number of refusal 17.
-const BAD_READS: u32 = 17;
-
 // Whether the list is refused by 17.
+#[tactic(auto, unfolding(rules::specs::ReadMany::reads_wrong))]
 fn reads_wrong(list: &[u8], out: &[u8]) -> bool
     ensures { result ≡ reads_wrong list.now out.now }
 {
-    if triples::list_wrong(list) {
-        return true;
-    }
-    triples::lengths_exceed(list, out.len())
+    triples::list_wrong(list) || triples::lengths_exceed(list, out.len())
 }
 
 // The reads of a list that is right, with the room for the sizes of their files. The answer is the number of inspections that were made.
@@ -34,22 +30,16 @@ fn read_all(
     list: &[u8],
     sizes: &mut [u64],
     out: &mut [u8],
-) -> Checks
+) -> Result<u64, Refusal>
     requires read_ready { ReadReady image.now head.now cards.now extents.now groups.now }
     requires triple_bytes_len_bound { (length list.now / triple_bytes ≤ most_triples) × (length sizes.old ≡ most_triples) }
     requires list_in_bounds { lengths_of (decode_triples list.now) ≤ length out.old }
-    ensures { gives result.number result.made out.new ≡ gives_all (looked image.now head.now extents.now groups.now) cards.now (decode_triples list.now) out.old }
+    ensures { gives (number_in result) (count_in result) out.new ≡ gives_all (looked image.now head.now extents.now groups.now) cards.now (decode_triples list.now) out.old }
 {
-    let r = read_checks::check_list(image, head, cards, extents, groups, list, sizes);
-    if r.number != 0 {
-        return Checks {
-            number: r.number,
-            made: 0,
-        };
-    }
+    let made = read_checks::check_list(image, head, cards, extents, groups, list, sizes)?;
     let h = format::head::decode_head(head);
     pieces::hand_out_pieces(image, extents, h.extents as usize, list, sizes, out);
-    r
+    Ok(made)
 }
 
 // The reads of a list, each into its piece of `out`. The answer is the number of different units that they touch.
@@ -61,15 +51,12 @@ pub fn read_many(
     groups: &[u8],
     list: &[u8],
     out: &mut [u8],
-) -> Checks
+) -> Result<u64, Refusal>
     requires { ReadReady image.now head.now cards.now extents.now groups.now }
-    ensures { gives result.number result.made out.new ≡ gives_many (looked image.now head.now extents.now groups.now) cards.now list.now out.old }
+    ensures { gives (number_in result) (count_in result) out.new ≡ gives_many (looked image.now head.now extents.now groups.now) cards.now list.now out.old }
 {
     if reads_wrong(list, out) {
-        return Checks {
-            number: BAD_READS,
-            made: 0,
-        };
+        return Err(Refusal::BadReads);
     }
     let mut sizes = [0u64; MOST_TRIPLES];
     read_all(image, head, cards, extents, groups, list, &mut sizes, out)

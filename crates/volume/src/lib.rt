@@ -82,10 +82,15 @@ pub fn sangueko_read_many(
     if let Err(refusal) = intake::refused(&seen) {
         return Answer { number: refusal.number(), count: 0 };
     }
-    let done = read_many::read_many(image, head, cards, extents, groups, list, out);
-    Answer {
-        number: done.number,
-        count: done.made,
+    match read_many::read_many(image, head, cards, extents, groups, list, out) {
+        Ok(made) => Answer {
+            number: 0,
+            count: made,
+        },
+        Err(r) => Answer {
+            number: r.number(),
+            count: 0,
+        },
     }
 }
 

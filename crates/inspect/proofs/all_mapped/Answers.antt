@@ -1,16 +1,12 @@
-use native.Mathlib.Omega.{arith}
-use Rattle.inspect.proofs.BlockLaws.{not-mapped, named_more, all-mapped}
-use borrow.Author.Rules.{rules}
+-- `inspect::all_mapped` meets its contract.
+-- Assumes nothing.
+use Rattle.std.proofs.Common.{◌∙◌, rules, tests, not, nat_eq, take}
+use Rattle.std.proofs.lemmas.Iterator.{YieldsList-from_slice}
+use Rattle.std.proofs.lemmas.Iterator.Search.{all_from_yields_List}
+use Rattle.inspect.proofs.BlockLaws.{all-first}
 use Rattle.inspect.proofs.all_mapped.Goals as goal
 
-pub loop-i-init : goal.loop-i-init
-loop-i-init c = (omega arith, λ j l. absurd (omega arith))
-
-pub returns-then-blocks-i-eq0 : goal.returns-then-blocks-i-eq0
-returns-then-blocks-i-eq0 c = search (not-mapped, rules)
-
-pub loop-i-preserved : goal.loop-i-preserved
-loop-i-preserved c = search (named_more, rules)
-
 pub returns : goal.returns
-returns c = search (all-mapped, rules)
+returns c =
+    all_from_yields_List (λ x. not (nat_eq x 0)) _ _ c.all.result c.all.ensures.ran (YieldsList-from_slice (take c.args.n c.args.blocks.now) cc) (λ x b q k. search (rules, tests))
+    ∙ all-first c.args.n c.args.blocks.now

@@ -1,16 +1,12 @@
-use native.Mathlib.Omega.{arith}
-use Rattle.inspect.proofs.BlockLaws.{some_mapped, zeros-more, none-mapped}
-use borrow.Author.Rules.{rules}
+-- `inspect::any_mapped` meets its contract.
+-- Assumes nothing.
+use Rattle.std.proofs.Common.{◌∙◌, rules, tests, not, nat_eq}
+use Rattle.std.proofs.lemmas.Iterator.{YieldsList-from_slice}
+use Rattle.std.proofs.lemmas.Iterator.Search.{any_from_yields_List}
+use Rattle.inspect.proofs.BlockLaws.{any-entries}
 use Rattle.inspect.proofs.any_mapped.Goals as goal
 
-pub loop-i-init : goal.loop-i-init
-loop-i-init c = (omega arith, λ j l. absurd (omega arith))
-
-pub returns-then-blocks-i-ne0 : goal.returns-then-blocks-i-ne0
-returns-then-blocks-i-ne0 c = search (some_mapped, rules)
-
-pub loop-i-preserved : goal.loop-i-preserved
-loop-i-preserved c = search (zeros-more, rules)
-
 pub returns : goal.returns
-returns c = search (none-mapped, rules)
+returns c =
+    any_from_yields_List (λ x. not (nat_eq x 0)) _ _ c.any.result c.any.ensures.ran (YieldsList-from_slice c.args.blocks.now cc) (λ x b q k. search (rules, tests))
+    ∙ any-entries c.args.blocks.now

@@ -1,29 +1,34 @@
-use mathlib.Core.Path.{◌∙◌, sym}
+-- `read_checks::check_reads` meets its contract.
+-- Assumes nothing.
+use mathlib.Core.Path.{refl}
 use native.Mathlib.Omega.{arith}
+use Rattle.std.proofs.lemmas.Result.{err_from_is_err_and}
+use Rattle.format.specs.Refusals.{number_in, count_in}
+use Rattle.format.proofs.RefusalLaws.{refusal-positive}
 use Rattle.read_checks.proofs.CheckedLaws.{list-none, list-stop, list-more, list_all}
-use borrow.Author.Rules.{rules}
 use Rattle.read_checks.proofs.check_reads.Goals as goal
 
 pub loop-i-init : goal.loop-i-init
-loop-i-init c = let p = c.requires in (p.w_len, omega arith, list-none _ _ _ _ p.triple_bytes_len_bound.1)
+loop-i-init c = let p = c.requires in list-none _ _ _ _ p.triple_bytes_len_bound.1
 
-pub check_read-r-requires : goal.check_read-r-requires
-check_read-r-requires c = let p = c.requires in let i = c.loop-i.invariant in let l = c.loop-i-test.true in record { tables = p.tables; w_len = i.0; read_ready = p.read_ready; n_value = p.n_value; triple_bytes_in_bounds = (omega (arith, l), omega (arith, l, p.triple_bytes_len_bound.0), i.2.room); made_bound = omega (arith, l, p.triple_bytes_len_bound.0, i.2.most); earlier = i.2.earlier }
+pub check_read-requires : goal.check_read-requires
+check_read-requires c = let p = c.requires in let i = c.loop-i.invariant in let l = c.loop-i-test.true in record { tables = p.tables; w_len = omega arith; read_ready = p.read_ready; n_value = p.n_value; triple_bytes_in_bounds = (omega (arith, l), omega (arith, l, p.triple_bytes_len_bound.0), i.room); earlier = i.earlier }
 
-pub shape_of-sizes-then-r-ne0 : goal.shape_of-sizes-then-r-ne0
-shape_of-sizes-then-r-ne0 c = c.check_read-r.ensures.room ∙ c.loop-i.invariant.2.room ∙ sym c.requires.triple_bytes_len_bound.1
-
-pub returns-then-r-ne0 : goal.returns-then-r-ne0
-returns-then-r-ne0 c = list-stop _ _ _ _ _ _ c.loop-i.invariant.2 _ _ _ c.check_read-r.ensures c.loop-i-test.true c.if-r-ne0.true
-
-pub overflow_add-i : goal.overflow_add-i
-overflow_add-i c = omega (arith, c.loop-i-test.true, c.requires.triple_bytes_len_bound.0)
+pub returns-in_err-made : goal.returns-in_err-made
+unfolding number_in count_in
+returns-in_err-made c =
+    let e = err_from_is_err_and c.from_residual.result c.from_residual.ensures.1 in
+    let r = c.in_err-made in
+    rw (e.1, e.2) (list-stop _ _ _ _ _ _ c.loop-i.invariant _ _ _ r.ensures c.loop-i-test.true (λ z. absurd (omega (arith, z, refusal-positive r.field-0.0))))
 
 pub loop-i-preserved : goal.loop-i-preserved
-loop-i-preserved c = let l = c.loop-i-test.true in (search rules, omega (arith, l), list-more _ _ _ _ _ _ c.loop-i.invariant.2 _ _ _ c.check_read-r.ensures l c.if-r-ne0.false)
-
-pub shape_of-sizes : goal.shape_of-sizes
-shape_of-sizes c = c.loop-i.invariant.2.room ∙ sym c.requires.triple_bytes_len_bound.1
+unfolding number_in count_in
+loop-i-preserved c = list-more _ _ _ _ _ _ c.loop-i.invariant _ 0 _ c.in_ok-made.ensures c.loop-i-test.true refl
 
 pub returns : goal.returns
-returns c = let i = c.loop-i.invariant in list_all _ _ _ _ _ _ i.2 i.1 c.loop-i-test.false
+unfolding number_in count_in
+returns c = let i = c.loop-i.invariant in list_all _ _ _ _ _ _ i (omega arith) c.loop-i-test.false
+
+pub overflow_add-made : goal.overflow_add-made
+unfolding count_in
+overflow_add-made c = omega (arith, c.loop-i.invariant.most, c.in_ok-made.ensures.most, c.loop-i-test.true, c.requires.triple_bytes_len_bound.0)

@@ -1,19 +1,33 @@
+-- `read_checks::check_stretch` meets its contract.
+-- Assumes nothing.
 use native.Mathlib.Omega.{arith}
+use Rattle.std.proofs.lemmas.Result.{err_from_is_err_and}
+use Rattle.format.specs.Refusals.{number_in, count_in}
+use Rattle.format.proofs.RefusalLaws.{refusal-positive}
 use Rattle.read_checks.proofs.StretchLaws.{passed_none, passed-stop, passed-more, passed-all}
-use borrow.Author.Rules.{rules}
 use Rattle.read_checks.proofs.check_stretch.Goals as goal
 
 pub loop-j-init : goal.loop-j-init
-loop-j-init c = (c.requires.w_len, passed_none _ _ _ _ _ _ _)
+loop-j-init c = passed_none _ _ _ _ _ _
 
-pub check_new-r-requires : goal.check_new-r-requires
-check_new-r-requires c = let p = c.requires in let i = c.loop-j.invariant in record { tables = p.tables; w_len = i.0; head_len = p.head_len; readable = p.readable; i_in_bounds = p.i_in_bounds; unit_bytes_bound = omega (arith, p.unit_bytes_bound, c.loop-j-test.true); made_bound = omega (arith, p.k_bound, c.loop-j-test.true, i.1.most); unit_value = p.by_index _ }
+pub check_new-requires : goal.check_new-requires
+check_new-requires c = let p = c.requires in record { tables = p.tables; w_len = omega arith; head_len = p.head_len; readable = p.readable; i_in_bounds = p.i_in_bounds; unit_bytes_bound = omega (arith, p.unit_bytes_bound, c.loop-j-test.true); unit_value = p.by_index _ }
 
-pub returns-then-r-ne0 : goal.returns-then-r-ne0
-returns-then-r-ne0 c = passed-stop _ _ _ _ _ _ _ _ _ c.loop-j.invariant.1 c.loop-j-test.true _ _ c.check_new-r.ensures c.if-r-ne0.true
+pub returns-in_err-made : goal.returns-in_err-made
+unfolding number_in count_in
+returns-in_err-made c =
+    let e = err_from_is_err_and c.from_residual.result c.from_residual.ensures.1 in
+    let r = c.in_err-made in
+    rw (e.1, e.2) (passed-stop _ _ _ _ _ _ _ _ c.loop-j.invariant c.loop-j-test.true _ (refusal-positive r.field-0.0) r.ensures.number)
 
 pub loop-j-preserved : goal.loop-j-preserved
-loop-j-preserved c = (search rules, passed-more _ _ _ _ _ _ _ _ _ c.loop-j.invariant.1 c.loop-j-test.true _ _ c.check_new-r.ensures c.if-r-ne0.false)
+unfolding number_in count_in
+loop-j-preserved c = passed-more _ _ _ _ _ _ _ _ c.loop-j.invariant c.loop-j-test.true _ c.in_ok-made.ensures
 
 pub returns : goal.returns
-returns c = passed-all _ _ _ _ _ _ _ _ _ c.loop-j.invariant.1 c.loop-j-test.false
+unfolding number_in count_in
+returns c = passed-all _ _ _ _ _ _ _ _ c.loop-j.invariant c.loop-j-test.false
+
+pub overflow_add-made : goal.overflow_add-made
+unfolding count_in
+overflow_add-made c = omega (arith, c.loop-j.invariant.most, c.in_ok-made.ensures.most, c.loop-j-test.true)

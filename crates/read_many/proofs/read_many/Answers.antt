@@ -1,10 +1,13 @@
 -- `read_many::read_many` meets its contract.
 -- Assumes nothing.
 use mathlib.Core.Path.{refl}
+use Rattle.rules.specs.Refusal.{number_of}
+use Rattle.format.specs.Refusals.{refusal_of, number_in, count_in}
 use Rattle.read_many.proofs.ManyLaws.{few-triples, lengths-fit, many-wrong, many-right}
 use Rattle.read_many.proofs.read_many.Goals as goal
 
 pub returns-then-reads_wrong : goal.returns-then-reads_wrong
+unfolding number_in count_in refusal_of number_of
 returns-then-reads_wrong c = many-wrong _ _ _ _ _ c.reads_wrong.ensures c.if-reads_wrong.true
 
 pub read_all-requires : goal.read_all-requires
