@@ -9,6 +9,7 @@ use lib.Dec.{leb}
 use lib.ListN.{length, take, drop}
 use lib.Seq.{drop-drop}
 use borrow.Author.Tests.{leb-true, le-leb}
+use Rattle.std.specs.Prelude.{Err}
 use Rattle.rules.specs.Sizes.{most_runs, most_blocks}
 use Rattle.rules.specs.Lists.{pick◌then◌else◌}
 use Rattle.rules.specs.Bytes.{Bytes}
@@ -34,6 +35,8 @@ use Rattle.rules.proofs.BytesKept.{bytes-kept}
 use Rattle.rules.proofs.BatchLaws.{after-accepted, after-refused, next_write, TripleInRange, triples-in-range}
 use Rattle.history.proofs.UnsharedLaws.{Unshared, Safe, few-blocks, write-safe}
 use Rattle.book.proofs.SearchLaws.{record-at}
+use Rattle.format.specs.declared.refusal.Refusal.{Refusal}
+use Rattle.format.specs.Refusals.{number_in, refusal_of}
 use Rattle.intake.specs.Join.{store_number}
 use Rattle.intake.proofs.JoinLaws.{stopped}
 use Rattle.triples.specs.declared.Triple as struct
@@ -52,9 +55,9 @@ none-comes s p = sym (ap outcome_number (goes_on s (accept 0 s []) p))
 
 module _ (object offset : ℕ) (bytes : List ℕ) (seconds nanoseconds : ℕ) (s : Store) where
   -- stopped by refusal 1 or 2
-  pub write-stopped : (n : ℕ) → n ≡ store_number s → (n ≡ 0 → ⊥) → Wrote object offset bytes seconds nanoseconds s n s
-  write-stopped n e z =
-      let q : ◌≡◌ {A = Result} (answered n 0 s) (call (write object offset bytes (record { seconds = seconds; nanoseconds = nanoseconds })) s) = unfold call write_outcome in stopped s [] _ n e z in
+  pub write-stopped : (r : Refusal) → number_in {A = Unit {0}} (Err r) ≡ store_number s → Wrote object offset bytes seconds nanoseconds s (number_of (refusal_of r)) s
+  write-stopped r e =
+      let q : ◌≡◌ {A = Result} (answered (number_of (refusal_of r)) 0 s) (call (write object offset bytes (record { seconds = seconds; nanoseconds = nanoseconds })) s) = unfold call write_outcome in stopped s [] _ r e in
       record { number_is = ap (λ (r : Result). r.number) q; left_is = ap (λ (r : Result). r.store) q }
 
   -- done, as the inner call does it with the limit of runs that a write has

@@ -4,6 +4,7 @@ use mathlib.Core.Path.{◌≡◌, refl, ap, ◌∙◌}
 use mathlib.Core.Bool.{Bool, true, false}
 use mathlib.Core.List.{List, [], ◌∷◌}
 use Prim.Native.Nat.{ℕ}
+use Rattle.std.specs.Prelude.{Err}
 use Rattle.rules.specs.Lists.{pick◌then◌else◌}
 use Rattle.rules.specs.Time.{Time}
 use Rattle.rules.specs.Store.{Store}
@@ -18,8 +19,12 @@ use Rattle.rules.specs.Batch.{batch_wrong, batch_cases, batch_from, unless, writ
 use Rattle.rules.specs.Act.{act}
 use Rattle.rules.specs.Act.Act.{batch}
 use Rattle.rules.proofs.PassLaws.{Passes}
+use Rattle.format.specs.declared.refusal.Refusal.{Refusal}
+use Rattle.format.specs.Refusals.{number_in, refusal_of}
 use Rattle.intake.specs.Join.{store_number}
 use Rattle.batch.specs.Batch.{batch_tried}
+use native.Mathlib.Omega.{arith}
+use Rattle.format.proofs.RefusalLaws.{refusal-positive}
 use Rattle.volume.specs.Call.{gave}
 
 -- the tests of refusals 1 and 2, before others
@@ -33,9 +38,9 @@ unless-stopped false false cases s next n e z = absurd (z e)
 
 module _ (list bytes : List ℕ) (time : Time) (s : Store) where
   -- refusals 1 and 2
-  pub batch-stopped : (n : ℕ) → n ≡ store_number s → (n ≡ 0 → ⊥) → gave n 0 s ≡ act (batch list bytes time) s
-  unfolding act write_batch batch_cases store_cases store_number
-  batch-stopped n e z = unless-stopped (length_wrong s) (rule_broken s) ((bad_batch when batch_wrong list bytes) ∷ []) s (batch_from (decode_triples list) bytes time 0 s) n e z
+  pub batch-stopped : (r : Refusal) → number_in {A = Unit {0}} (Err r) ≡ store_number s → gave (number_of (refusal_of r)) 0 s ≡ act (batch list bytes time) s
+  unfolding act write_batch batch_cases store_cases store_number number_in
+  batch-stopped r e = unless-stopped (length_wrong s) (rule_broken s) ((bad_batch when batch_wrong list bytes) ∷ []) s (batch_from (decode_triples list) bytes time 0 s) (number_of (refusal_of r)) e (λ z. absurd (omega (arith, refusal-positive r, z)))
 
   -- what it gives where they do not come
   pub batch-gives : Passes s → (g : Result) → g ≡ batch_tried list bytes time s → g ≡ act (batch list bytes time) s

@@ -8,6 +8,7 @@ use native.Mathlib.Omega.{arith}
 use lib.Dec.{ltb, eqb, leb}
 use borrow.Author.Tests.{eqb-true, leb-true, leb-false, not-false}
 use lib.ListN.{length, replicate}
+use Rattle.std.specs.Prelude.{Err}
 use Rattle.rules.specs.Lists.{pick◌then◌else◌, given, range, count, find, insert, ascending}
 use Rattle.rules.specs.Sizes.{block_bytes, most_blocks}
 use Rattle.rules.specs.Bytes.{bit_set}
@@ -38,6 +39,8 @@ use Rattle.rules.proofs.FillLaws.{used-behind}
 use Rattle.rules.proofs.BookLaws.{length-decode_book}
 use Rattle.rules.proofs.EnterLaws.{TimeRight, time-right}
 use Rattle.rules.proofs.StoreAfter.{fresh-left, enter-left, settle-left}
+use Rattle.format.specs.declared.refusal.Refusal.{Refusal}
+use Rattle.format.specs.Refusals.{number_in, refusal_of}
 use Rattle.intake.specs.Join.{store_number}
 use Rattle.intake.proofs.JoinLaws.{stopped}
 use Rattle.store.specs.Buffers.{fresh_head, one_card_more, enter_number, CardsRight, EnterReady}
@@ -45,16 +48,16 @@ use Rattle.volume.specs.Call.{gave}
 
 -- ---- refusals 1 and 2
 
-module _ (s : Store) (n : ℕ) (e : n ≡ store_number s) (z : n ≡ 0 → ⊥) where
+module _ (s : Store) (r : Refusal) (e : number_in {A = Unit {0}} (Err r) ≡ store_number s) where
   -- fill
-  pub fill-stopped : gave n 0 s ≡ call (look fill) s
+  pub fill-stopped : gave (number_of (refusal_of r)) 0 s ≡ call (look fill) s
   unfolding call fill_outcome
-  fill-stopped = stopped s [] _ n e z
+  fill-stopped = stopped s [] _ r e
 
   -- and settle
-  pub settle-stopped : gave n 0 s ≡ call settle s
+  pub settle-stopped : gave (number_of (refusal_of r)) 0 s ≡ call settle s
   unfolding call settle_outcome
-  settle-stopped = stopped s [] _ n e z
+  settle-stopped = stopped s [] _ r e
 
 -- ---- fill and settle
 
@@ -162,9 +165,9 @@ module _ (uuid : List ℕ) (reserved : ℕ) (s : Store) where
 
 module _ (object : ℕ) (time : Time) (s : Store) where
   -- refusals 1 and 2
-  pub enter-stopped : (n : ℕ) → n ≡ store_number s → (n ≡ 0 → ⊥) → gave n 0 s ≡ call (enter object time) s
+  pub enter-stopped : (r : Refusal) → number_in {A = Unit {0}} (Err r) ≡ store_number s → gave (number_of (refusal_of r)) 0 s ≡ call (enter object time) s
   unfolding call enter_outcome
-  enter-stopped n e z = stopped s [] _ n e z
+  enter-stopped r e = stopped s [] _ r e
 
   module _ (p : Passes s) where
     -- its cards are those that the head counts

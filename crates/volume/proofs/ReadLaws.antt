@@ -8,6 +8,7 @@ use native.Mathlib.Omega.{arith}
 use lib.Dec.{eqb}
 use lib.ListN.{length}
 use borrow.Author.Tests.{eqb-true, eqb-false}
+use Rattle.std.specs.Prelude.{Err}
 use Rattle.rules.specs.Lists.{maybe, range, begun}
 use Rattle.rules.specs.Sizes.{unit_blocks, unit_bytes}
 use Rattle.rules.specs.Head.{decode_head}
@@ -31,6 +32,8 @@ use Rattle.rules.proofs.ListLaws.{test-cases, if-true, if-false, find-passes}
 use Rattle.rules.proofs.PassLaws.{Passes, Lawful, passes-head, lawful-decode}
 use Rattle.rules.proofs.OutcomeLaws.{goes_on}
 use Rattle.rules.proofs.UnitListLaws.{units_of-some}
+use Rattle.format.specs.declared.refusal.Refusal.{Refusal}
+use Rattle.format.specs.Refusals.{number_in, refusal_of}
 use Rattle.intake.specs.Join.{store_number}
 use Rattle.intake.proofs.JoinLaws.{stopped}
 use Rattle.mapping.specs.Entries.{slot_of}
@@ -56,9 +59,9 @@ read-ready s p = record {
 
 module _ (object offset : ℕ) (out : List ℕ) (s : Store) where
   -- refusals 1 and 2
-  pub read-stopped : (n : ℕ) → n ≡ store_number s → (n ≡ 0 → ⊥) → handed n 0 s out ≡ call (look (read object offset out)) s
+  pub read-stopped : (r : Refusal) → number_in {A = Unit {0}} (Err r) ≡ store_number s → handed (number_of (refusal_of r)) 0 s out ≡ call (look (read object offset out)) s
   unfolding call read_outcome
-  read-stopped n e z = stopped s out _ n e z
+  read-stopped r e = stopped s out _ r e
 
   -- what a read gives, as the call's result
   unfoldable pub resulting : Gives → Result

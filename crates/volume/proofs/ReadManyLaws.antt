@@ -9,6 +9,7 @@ use lib.Dec.{eqb, ltb}
 use lib.ListN.{length, take, drop, length-drop}
 use lib.Seq.{length-take-le}
 use borrow.Author.Tests.{eqb-true, eqb-false, ltb-false}
+use Rattle.std.specs.Prelude.{Err}
 use Rattle.rules.specs.Store.{Store, decode, decode_with, card_of}
 use Rattle.rules.specs.Book.{decode_books}
 use Rattle.rules.specs.Refusal.{Refusal, Outcome, Result, ◌when◌, number_of, first_case, result}
@@ -26,6 +27,8 @@ use Rattle.rules.proofs.CountLaws.{flat_map-each}
 use Rattle.rules.proofs.PassLaws.{Passes}
 use Rattle.rules.proofs.OutcomeLaws.{goes_on}
 use Rattle.rules.proofs.Refused.{numbered}
+use Rattle.format.specs.declared.refusal.Refusal as code
+use Rattle.format.specs.Refusals.{number_in, refusal_of}
 use Rattle.intake.specs.Join.{store_number}
 use Rattle.intake.proofs.JoinLaws.{stopped}
 use Rattle.read.specs.Gives.{Gives, gives, gives_read}
@@ -152,9 +155,9 @@ module _ (s : Store) (p : Passes s) where
 
 module _ (list out : List ℕ) (s : Store) where
   -- refusals 1 and 2
-  pub many-stopped : (n : ℕ) → n ≡ store_number s → (n ≡ 0 → ⊥) → handed n 0 s out ≡ call (look (read_many list out)) s
+  pub many-stopped : (r : code.Refusal) → number_in {A = Unit {0}} (Err r) ≡ store_number s → handed (number_of (refusal_of r)) 0 s out ≡ call (look (read_many list out)) s
   unfolding call read_many_outcome
-  many-stopped n e z = stopped s out _ n e z
+  many-stopped r e = stopped s out _ r e
 
   module _ (p : Passes s) where
     -- what the inner call gives, as the call's result

@@ -8,6 +8,7 @@ use Prim.Native.Nat.{ℕ, ◌*◌, ◌%◌}
 use lib.Dec.{eqb, ltb}
 use lib.ListN.{length, drop}
 use borrow.Author.Tests.{eqb-true}
+use Rattle.std.specs.Prelude.{Err}
 use Rattle.rules.specs.Lists.{maybe, given, find, range, ascending}
 use Rattle.rules.specs.Sizes.{unit_bytes, group_units}
 use Rattle.rules.specs.Head.{decode_head}
@@ -30,6 +31,8 @@ use Rattle.rules.proofs.ListLaws.{test-cases, and_right, if-true, if-false, find
 use Rattle.rules.proofs.CountLaws.{filter-each}
 use Rattle.rules.proofs.PassLaws.{Passes, passes-head, lawful-decode}
 use Rattle.rules.proofs.OutcomeLaws.{goes_on}
+use Rattle.format.specs.declared.refusal.Refusal.{Refusal}
+use Rattle.format.specs.Refusals.{number_in, refusal_of}
 use Rattle.intake.specs.Join.{store_number}
 use Rattle.intake.proofs.JoinLaws.{stopped}
 use Rattle.mapping.proofs.LookupLaws.{passes-groups}
@@ -65,9 +68,9 @@ slot-given (some g) k = refl
 
 module _ (object first units : ℕ) (out : List ℕ) (s : Store) where
   -- refusals 1 and 2
-  pub stretches-stopped : (n : ℕ) → n ≡ store_number s → (n ≡ 0 → ⊥) → handed n 0 s out ≡ call (look (data_stretches object first units out)) s
+  pub stretches-stopped : (r : Refusal) → number_in {A = Unit {0}} (Err r) ≡ store_number s → handed (number_of (refusal_of r)) 0 s out ≡ call (look (data_stretches object first units out)) s
   unfolding call stretches_outcome
-  stretches-stopped n e z = stopped s out _ n e z
+  stretches-stopped r e = stopped s out _ r e
 
   -- what the inner call gives, as the call's result
   abbrev answered : Gives → Result

@@ -17,18 +17,34 @@ ghost use Rattle.rules.specs.Call.Look.{read, read_many, data_stretches, fill};
 ghost use Rattle.rules.specs.Call.Call.{fresh, enter, write, write_archive, grow, settle, look};
 ghost use Rattle.rules.specs.Act.{act};
 ghost use Rattle.rules.specs.Act.Act.{batch};
-ghost use Rattle.volume.specs.Call.{handed, gave};
+ghost use Rattle.format.specs.Refusals.{number_in, count_in};
+ghost use Rattle.volume.specs.Call.{handed, gave, Says};
 
+use format::refusal::Refusal;
 use format::sizes::BLOCK_BYTES;
 use lent::{Store, View};
 use write::{ARCHIVE_RUNS, MOST_RUNS};
 
-// A call's answer: 0 and a count, or the number of its refusal and 0.
+// A call's answer, as C has it: 0 and a count, or the number of its refusal and 0.
 #[repr(C)]
 #[derive(Clone, Copy)]
 pub struct Answer {
     pub number: u32,
     pub count: u64,
+}
+
+impl From<Result<u64, Refusal>> for Answer {
+    ghost from_gives = { Says };
+
+    fn from(answer: Result<u64, Refusal>) -> Answer {
+        match answer {
+            Ok(count) => Answer { number: 0, count },
+            Err(refusal) => Answer {
+                number: refusal.number(),
+                count: 0,
+            },
+        }
+    }
 }
 
 // Bytes of a file from `offset` on, at the head of `out`: all up to its end, as far as `out` has room and a read gets them. The count is their
@@ -44,23 +60,20 @@ pub fn sangueko_read(
     object: u64,
     offset: u64,
     out: &mut [u8],
-) -> Answer
-    ensures { handed result.number result.count (lent image.now head.now cards.now extents.now groups.now used.now retired.now) out.new ≡ call (look (read object offset out.old)) (lent image.now head.now cards.now extents.now groups.now used.now retired.now) }
+) -> Result<u64, Refusal>
+    ensures { handed (number_in result) (count_in result) (lent image.now head.now cards.now extents.now groups.now used.now retired.now) out.new ≡ call (look (read object offset out.old)) (lent image.now head.now cards.now extents.now groups.now used.now retired.now) }
 {
-    let seen = View { image, head, cards, extents, groups, used, retired };
-    if let Err(refusal) = intake::refused(&seen) {
-        return Answer { number: refusal.number(), count: 0 };
-    }
-    match read::read_file(image, head, cards, extents, groups, object, offset, out) {
-        Ok(n) => Answer {
-            number: 0,
-            count: n as u64,
-        },
-        Err(r) => Answer {
-            number: r.number(),
-            count: 0,
-        },
-    }
+    intake::refused(&View {
+        image,
+        head,
+        cards,
+        extents,
+        groups,
+        used,
+        retired,
+    })?;
+    let n = read::read_file(image, head, cards, extents, groups, object, offset, out)?;
+    Ok(n as u64)
 }
 
 // The reads of a list of triples (object, offset, length), each into its piece of `out`, as a single read into a buffer of that length. The count is the
@@ -75,23 +88,19 @@ pub fn sangueko_read_many(
     retired: &[u8],
     list: &[u8],
     out: &mut [u8],
-) -> Answer
-    ensures { handed result.number result.count (lent image.now head.now cards.now extents.now groups.now used.now retired.now) out.new ≡ call (look (read_many list.now out.old)) (lent image.now head.now cards.now extents.now groups.now used.now retired.now) }
+) -> Result<u64, Refusal>
+    ensures { handed (number_in result) (count_in result) (lent image.now head.now cards.now extents.now groups.now used.now retired.now) out.new ≡ call (look (read_many list.now out.old)) (lent image.now head.now cards.now extents.now groups.now used.now retired.now) }
 {
-    let seen = View { image, head, cards, extents, groups, used, retired };
-    if let Err(refusal) = intake::refused(&seen) {
-        return Answer { number: refusal.number(), count: 0 };
-    }
-    match read_many::read_many(image, head, cards, extents, groups, list, out) {
-        Ok(made) => Answer {
-            number: 0,
-            count: made,
-        },
-        Err(r) => Answer {
-            number: r.number(),
-            count: 0,
-        },
-    }
+    intake::refused(&View {
+        image,
+        head,
+        cards,
+        extents,
+        groups,
+        used,
+        retired,
+    })?;
+    read_many::read_many(image, head, cards, extents, groups, list, out)
 }
 
 // The stretches of a file that hold data, in the `units` units from `first` on: each as a pair of numbers of 8 bytes, its first unit and how many they
@@ -108,20 +117,19 @@ pub fn sangueko_data_stretches(
     first: u64,
     units: u64,
     out: &mut [u8],
-) -> Answer
-    ensures { handed result.number result.count (lent image.now head.now cards.now extents.now groups.now used.now retired.now) out.new ≡ call (look (data_stretches object first units out.old)) (lent image.now head.now cards.now extents.now groups.now used.now retired.now) }
+) -> Result<u64, Refusal>
+    ensures { handed (number_in result) (count_in result) (lent image.now head.now cards.now extents.now groups.now used.now retired.now) out.new ≡ call (look (data_stretches object first units out.old)) (lent image.now head.now cards.now extents.now groups.now used.now retired.now) }
 {
-    let seen = View { image, head, cards, extents, groups, used, retired };
-    if let Err(refusal) = intake::refused(&seen) {
-        return Answer { number: refusal.number(), count: 0 };
-    }
-    match stretches::data_stretches(head, cards, groups, object, first, units, out) {
-        Ok(count) => Answer { number: 0, count },
-        Err(r) => Answer {
-            number: r.number(),
-            count: 0,
-        },
-    }
+    intake::refused(&View {
+        image,
+        head,
+        cards,
+        extents,
+        groups,
+        used,
+        retired,
+    })?;
+    stretches::data_stretches(head, cards, groups, object, first, units, out)
 }
 
 // How much is used of the blocks that are not reserved, per mille; 0 where every block is reserved. Nothing changes.
@@ -133,16 +141,21 @@ pub fn sangueko_fill(
     groups: &[u8],
     used: &[u8],
     retired: &[u8],
-) -> Answer
-    ensures { gave result.number result.count (lent image.now head.now cards.now extents.now groups.now used.now retired.now) ≡ call (look fill) (lent image.now head.now cards.now extents.now groups.now used.now retired.now) }
+) -> Result<u64, Refusal>
+    ensures { gave (number_in result) (count_in result) (lent image.now head.now cards.now extents.now groups.now used.now retired.now) ≡ call (look fill) (lent image.now head.now cards.now extents.now groups.now used.now retired.now) }
 {
-    let seen = View { image, head, cards, extents, groups, used, retired };
-    if let Err(refusal) = intake::refused(&seen) {
-        return Answer { number: refusal.number(), count: 0 };
-    }
+    intake::refused(&View {
+        image,
+        head,
+        cards,
+        extents,
+        groups,
+        used,
+        retired,
+    })?;
     let reserved = store::fill::reserved_blocks(head);
     let count = store::fill::used_per_mille(used, reserved, image.len() / BLOCK_BYTES);
-    Answer { number: 0, count }
+    Ok(count)
 }
 
 // The retired blocks let go: both bits of each are cleared. The count is their number.
@@ -154,15 +167,20 @@ pub fn sangueko_settle(
     groups: &[u8],
     used: &mut [u8],
     retired: &mut [u8],
-) -> Answer
-    ensures { gave result.number result.count (lent image.now head.now cards.now extents.now groups.now used.new retired.new) ≡ call settle (lent image.now head.now cards.now extents.now groups.now used.old retired.old) }
+) -> Result<u64, Refusal>
+    ensures { gave (number_in result) (count_in result) (lent image.now head.now cards.now extents.now groups.now used.new retired.new) ≡ call settle (lent image.now head.now cards.now extents.now groups.now used.old retired.old) }
 {
-    let seen = View { image, head, cards, extents, groups, used, retired };
-    if let Err(refusal) = intake::refused(&seen) {
-        return Answer { number: refusal.number(), count: 0 };
-    }
+    intake::refused(&View {
+        image,
+        head,
+        cards,
+        extents,
+        groups,
+        used,
+        retired,
+    })?;
     let count = store::settle::settle_maps(used, retired, image.len() / BLOCK_BYTES);
-    Answer { number: 0, count }
+    Ok(count)
 }
 
 // A new file: a card of size 0 with no blocks and the lent time.
@@ -177,23 +195,22 @@ pub fn sangueko_enter(
     object: u64,
     seconds: u64,
     nanoseconds: u64,
-) -> Answer
-    ensures { gave result.number result.count (lent image.now head.new cards.new extents.now groups.now used.now retired.now) ≡ call (enter object (record { seconds = seconds; nanoseconds = nanoseconds })) (lent image.now head.old cards.old extents.now groups.now used.now retired.now) }
+) -> Result<u64, Refusal>
+    ensures { gave (number_in result) (count_in result) (lent image.now head.new cards.new extents.now groups.now used.now retired.now) ≡ call (enter object (record { seconds = seconds; nanoseconds = nanoseconds })) (lent image.now head.old cards.old extents.now groups.now used.now retired.now) }
 {
-    let seen = View { image, head, cards, extents, groups, used, retired };
-    if let Err(refusal) = intake::refused(&seen) {
-        return Answer { number: refusal.number(), count: 0 };
-    }
+    intake::refused(&View {
+        image,
+        head,
+        cards,
+        extents,
+        groups,
+        used,
+        retired,
+    })?;
     let n = store::enter::card_count(head);
-    let number = store::enter::enter_refused(cards, n, object, seconds, nanoseconds);
-    if number != 0 {
-        return Answer { number, count: 0 };
-    }
+    store::enter::enter_refused(cards, n, object, seconds, nanoseconds)?;
     store::enter::enter_card(head, cards, n, object, seconds, nanoseconds);
-    Answer {
-        number: 0,
-        count: 0,
-    }
+    Ok(0)
 }
 
 // Bytes written to a file from `offset` on: what a rewritten unit keeps is held to `limit` runs, in which alone the two calls differ.
@@ -214,23 +231,40 @@ fn write_within(
 ) -> Answer
     ensures { gave result.number result.count (lent image.new head.new cards.new extents.new groups.new used.new retired.new) ≡ result_of (lent image.old head.old cards.old extents.old groups.old used.old retired.old) [] (write_outcome limit object offset bytes.now (record { seconds = seconds; nanoseconds = nanoseconds }) (lent image.old head.old cards.old extents.old groups.old used.old retired.old)) }
 {
-    let seen = View { image, head, cards, extents, groups, used, retired };
-    if let Err(refusal) = intake::refused(&seen) {
-        return Answer { number: refusal.number(), count: 0 };
-    }
-    let mut store = Store { image, head, cards, extents, groups, used, retired };
-    let done = write::write::write_file(
-        &mut store,
-        limit,
-        object,
-        offset,
-        bytes,
-        seconds,
-        nanoseconds,
-    );
-    Answer {
-        number: done.number,
-        count: done.count,
+    match intake::refused(&View {
+        image,
+        head,
+        cards,
+        extents,
+        groups,
+        used,
+        retired,
+    }) {
+        Ok(()) => {
+            let mut store = Store {
+                image,
+                head,
+                cards,
+                extents,
+                groups,
+                used,
+                retired,
+            };
+            let done = write::write::write_file(
+                &mut store,
+                limit,
+                object,
+                offset,
+                bytes,
+                seconds,
+                nanoseconds,
+            );
+            Answer {
+                number: done.number,
+                count: done.count,
+            }
+        }
+        Err(refusal) => Answer::from(Err(refusal)),
     }
 }
 
@@ -319,21 +353,32 @@ pub fn sangueko_write_batch(
 ) -> Answer
     ensures { gave result.number result.count (lent image.new head.new cards.new extents.new groups.new used.new retired.new) ≡ act (batch list.now bytes.now (record { seconds = seconds; nanoseconds = nanoseconds })) (lent image.old head.old cards.old extents.old groups.old used.old retired.old) }
 {
-    let seen = View { image, head, cards, extents, groups, used, retired };
-    if let Err(refusal) = intake::refused(&seen) {
-        return Answer { number: refusal.number(), count: 0 };
-    }
-    let mut store = Store { image, head, cards, extents, groups, used, retired };
-    let written = batch::write_batch(
-        &mut store,
-        list,
-        bytes,
-        seconds,
-        nanoseconds,
-    );
-    Answer {
-        number: written.number,
-        count: written.count,
+    match intake::refused(&View {
+        image,
+        head,
+        cards,
+        extents,
+        groups,
+        used,
+        retired,
+    }) {
+        Ok(()) => {
+            let mut store = Store {
+                image,
+                head,
+                cards,
+                extents,
+                groups,
+                used,
+                retired,
+            };
+            let written = batch::write_batch(&mut store, list, bytes, seconds, nanoseconds);
+            Answer {
+                number: written.number,
+                count: written.count,
+            }
+        }
+        Err(refusal) => Answer::from(Err(refusal)),
     }
 }
 
@@ -353,19 +398,30 @@ pub fn sangueko_grow(
 ) -> Answer
     ensures { gave result.number result.count (lent image.new head.new cards.new extents.new groups.new used.new retired.new) ≡ call (grow object size (record { seconds = seconds; nanoseconds = nanoseconds })) (lent image.old head.old cards.old extents.old groups.old used.old retired.old) }
 {
-    let seen = View { image, head, cards, extents, groups, used, retired };
-    if let Err(refusal) = intake::refused(&seen) {
-        return Answer { number: refusal.number(), count: 0 };
+    match intake::refused(&View {
+        image,
+        head,
+        cards,
+        extents,
+        groups,
+        used,
+        retired,
+    }) {
+        Ok(()) => {
+            let mut store = Store {
+                image,
+                head,
+                cards,
+                extents,
+                groups,
+                used,
+                retired,
+            };
+            let number = write::grow::grow_file(&mut store, object, size, seconds, nanoseconds);
+            Answer { number, count: 0 }
+        }
+        Err(refusal) => Answer::from(Err(refusal)),
     }
-    let mut store = Store { image, head, cards, extents, groups, used, retired };
-    let number = write::grow::grow_file(
-        &mut store,
-        object,
-        size,
-        seconds,
-        nanoseconds,
-    );
-    Answer { number, count: 0 }
 }
 
 // A fresh store in the lent buffers, whatever they hold: no record, the first blocks reserved and used, none retired. The image stays.
@@ -379,23 +435,17 @@ pub fn sangueko_fresh(
     retired: &mut [u8],
     uuid: &[u8],
     reserved: u64,
-) -> Answer
-    ensures { gave result.number result.count (lent image.now head.new cards.new extents.new groups.new used.new retired.new) ≡ call (fresh uuid.now reserved) (lent image.now head.old cards.old extents.old groups.old used.old retired.old) }
+) -> Result<u64, Refusal>
+    ensures { gave (number_in result) (count_in result) (lent image.now head.new cards.new extents.new groups.new used.new retired.new) ≡ call (fresh uuid.now reserved) (lent image.now head.old cards.old extents.old groups.old used.old retired.old) }
 {
     if intake_lengths::fresh_length_wrong(
         image, head, cards, extents, groups, used, retired, uuid, reserved,
     ) {
-        return Answer {
-            number: 1,
-            count: 0,
-        };
+        return Err(Refusal::WrongLength);
     }
     let blocks = image.len() / BLOCK_BYTES;
     store::fresh::fresh_books(cards, extents, groups);
     store::fresh::fresh_maps(used, retired, blocks, reserved as usize);
     store::fresh::fresh_head(head, uuid, blocks as u64, reserved);
-    Answer {
-        number: 0,
-        count: 0,
-    }
+    Ok(0)
 }
