@@ -28,9 +28,9 @@ pub extern "C" fn sangueko_read(
 ) -> Answer
     ensures { handed result.number result.count (lent image.now head.now cards.now extents.now groups.now used.now retired.now) out.new ≡ call (look (read object offset out.old)) (lent image.now head.now cards.now extents.now groups.now used.now retired.now) }
 {
-    volume::sangueko_read(
+    Answer::from(volume::sangueko_read(
         image, head, cards, extents, groups, used, retired, object, offset, out,
-    )
+    ))
 }
 
 #[unsafe(no_mangle)]
@@ -47,9 +47,9 @@ pub extern "C" fn sangueko_read_many(
 ) -> Answer
     ensures { handed result.number result.count (lent image.now head.now cards.now extents.now groups.now used.now retired.now) out.new ≡ call (look (read_many list.now out.old)) (lent image.now head.now cards.now extents.now groups.now used.now retired.now) }
 {
-    volume::sangueko_read_many(
+    Answer::from(volume::sangueko_read_many(
         image, head, cards, extents, groups, used, retired, list, out,
-    )
+    ))
 }
 
 #[unsafe(no_mangle)]
@@ -68,9 +68,9 @@ pub extern "C" fn sangueko_data_stretches(
 ) -> Answer
     ensures { handed result.number result.count (lent image.now head.now cards.now extents.now groups.now used.now retired.now) out.new ≡ call (look (data_stretches object first units out.old)) (lent image.now head.now cards.now extents.now groups.now used.now retired.now) }
 {
-    volume::sangueko_data_stretches(
+    Answer::from(volume::sangueko_data_stretches(
         image, head, cards, extents, groups, used, retired, object, first, units, out,
-    )
+    ))
 }
 
 #[unsafe(no_mangle)]
@@ -85,7 +85,7 @@ pub extern "C" fn sangueko_fill(
 ) -> Answer
     ensures { gave result.number result.count (lent image.now head.now cards.now extents.now groups.now used.now retired.now) ≡ call (look fill) (lent image.now head.now cards.now extents.now groups.now used.now retired.now) }
 {
-    volume::sangueko_fill(image, head, cards, extents, groups, used, retired)
+    Answer::from(volume::sangueko_fill(image, head, cards, extents, groups, used, retired))
 }
 
 #[unsafe(no_mangle)]
@@ -100,7 +100,7 @@ pub extern "C" fn sangueko_settle(
 ) -> Answer
     ensures { gave result.number result.count (lent image.now head.now cards.now extents.now groups.now used.new retired.new) ≡ call settle (lent image.now head.now cards.now extents.now groups.now used.old retired.old) }
 {
-    volume::sangueko_settle(image, head, cards, extents, groups, used, retired)
+    Answer::from(volume::sangueko_settle(image, head, cards, extents, groups, used, retired))
 }
 
 #[unsafe(no_mangle)]
@@ -118,7 +118,7 @@ pub extern "C" fn sangueko_enter(
 ) -> Answer
     ensures { gave result.number result.count (lent image.now head.new cards.new extents.now groups.now used.now retired.now) ≡ call (enter object (record { seconds = seconds; nanoseconds = nanoseconds })) (lent image.now head.old cards.old extents.now groups.now used.now retired.now) }
 {
-    volume::sangueko_enter(
+    Answer::from(volume::sangueko_enter(
         image,
         head,
         cards,
@@ -129,7 +129,7 @@ pub extern "C" fn sangueko_enter(
         object,
         seconds,
         nanoseconds,
-    )
+    ))
 }
 
 #[unsafe(no_mangle)]
@@ -274,7 +274,7 @@ pub extern "C" fn sangueko_fresh(
 ) -> Answer
     ensures { gave result.number result.count (lent image.now head.new cards.new extents.new groups.new used.new retired.new) ≡ call (fresh uuid.now reserved) (lent image.now head.old cards.old extents.old groups.old used.old retired.old) }
 {
-    volume::sangueko_fresh(
+    Answer::from(volume::sangueko_fresh(
         image, head, cards, extents, groups, used, retired, uuid, reserved,
-    )
+    ))
 }
