@@ -1,7 +1,6 @@
 -- Laws of the search for a file: where its card stands, and that what was read of it is what the store says.
 -- Assumes nothing.
 use mathlib.Core.Path.{◌≡◌, sym, ap}
-use mathlib.Core.Bool.{Bool, true, false, false≢true}
 use mathlib.Core.List.{List}
 use mathlib.Core.Option.{none, some}
 use Prim.Native.Nat.{ℕ, ◌+◌, ◌*◌, ◌≤◌, ◌<◌}
@@ -39,28 +38,25 @@ module _ (bytes : List ℕ) (h : head.Head) (d : records.head_of h ≡ decode_he
         omega (arith, w, l, head-cards)
 
     -- none was found
-    pub file-none : f ≡ None → FileFound bytes cards object false 0 0
-    unfolding found_in
+    pub file-none : f ≡ None → FileFound bytes cards object None
+    unfolding found_in FileFound
     file-none q =
         let z : none ≡ find (card_is object) (decode_book decode_card card_bytes (decode_head bytes).cards cards) = rw (q, head-cards) at k.found in
-        record { missing = λ e. sym z; there = λ e. absurd (false≢true e) }
+        sym z
 
     -- one was
     pub file-some : (i : ℕ) (c : card.Card) → f ≡ Some i → records.card_of c ≡ decode_card (part (card_bytes * i) card_bytes cards) → records.CardFits c
-        → FileFound bytes cards object true c.size c.allocated
+        → CardThere bytes cards object c.size c.allocated
     unfolding found_in record_at records.card_of
     file-some i c q e w =
         let z : some (decode_card (part (card_bytes * i) card_bytes cards)) ≡ find (card_is object) (decode_book decode_card card_bytes (decode_head bytes).cards cards) = rw (q, head-cards) at k.found in
         record {
-          missing = λ t. absurd (false≢true (sym t));
-          there = λ t. record {
-            card = decode_card (part (card_bytes * i) card_bytes cards);
-            found = sym z;
-            size_is = sym (ap (λ (x : Card). x.size) e);
-            count_is = sym (ap (λ (x : Card). x.allocated) e);
-            short = omega (arith, w.size);
-            most = omega (arith, w.allocated);
-          };
+          card = decode_card (part (card_bytes * i) card_bytes cards);
+          found = sym z;
+          size_is = sym (ap (λ (x : Card). x.size) e);
+          count_is = sym (ap (λ (x : Card). x.allocated) e);
+          short = omega (arith, w.size);
+          most = omega (arith, w.allocated);
         }
 
 -- ---- the store
@@ -73,9 +69,9 @@ module _ (s : Store) where
 
   module _ (object : ℕ) where
     -- the store has no card for the object
-    pub card-missing : (known : Bool) (size allocated : ℕ) → FileFound s.head s.cards object known size allocated → known ≡ false → card_of (decode s) object ≡ none
-    unfolding card_of decode decode_with decode_books
-    card-missing known size allocated f k = f.missing k
+    pub card-missing : FileFound s.head s.cards object None → card_of (decode s) object ≡ none
+    unfolding FileFound card_of decode decode_with decode_books
+    card-missing f = f
 
     module _ (size allocated : ℕ) (t : CardThere s.head s.cards object size allocated) where
       -- the store has it

@@ -26,7 +26,9 @@ use Rattle.file.specs.Change.{numbered}
 use Rattle.file.specs.Tests.{grow_number}
 use Rattle.file.proofs.CallLaws as calls
 use Rattle.change.specs.Change.{ChangeReady, changed}
-use Rattle.write.specs.Call.{StoreReady, FileFound, FileReady, TimeFits, answered, grow_of, grown}
+use Rattle.std.proofs.Common.{Some, None}
+use Rattle.write.specs.declared.find.File.{File}
+use Rattle.write.specs.Call.{CardThere, StoreReady, FileFound, FileReady, TimeFits, answered, grow_of, grown}
 use Rattle.write.proofs.UnitsLaws.{units-grow}
 use Rattle.write.proofs.FindLaws.{card-missing, card-known, card-object}
 
@@ -65,7 +67,7 @@ module _ (s : Store) (object old allocated size seconds nanoseconds : ℕ) (us :
 
 -- ---- a file of known size
 
-module _ (s : Store) (w : StoreReady s) (object : ℕ) (known : Bool) (old allocated : ℕ) (f : FileFound s.head s.cards object known old allocated) (size seconds nanoseconds : ℕ) where
+module _ (s : Store) (w : StoreReady s) (object size seconds nanoseconds : ℕ) where
   -- the time that is lent
   abbrev time : Time
   time = record { seconds = seconds; nanoseconds = nanoseconds }
@@ -75,27 +77,39 @@ module _ (s : Store) (w : StoreReady s) (object : ℕ) (known : Bool) (old alloc
   outcome = grow_outcome object size time s
 
   -- 3
-  pub grow-missing : known ≡ false → answered 3 0 s ≡ result s [] outcome
+  pub grow-missing : FileFound s.head s.cards object None → answered 3 0 s ≡ result s [] outcome
   unfolding result number_of
-  grow-missing k = sym (ap (result s []) (calls.grow-missing s w.passes object size time (card-missing s object known old allocated f k)))
+  grow-missing f = sym (ap (result s []) (calls.grow-missing s w.passes object size time (card-missing s object f)))
 
-  module _ (k : known ≡ true) (n : ℕ) (e : n ≡ grow_number old size time) where
+  module _ (x : File) (f : FileFound s.head s.cards object (Some x)) (n : ℕ) (e : n ≡ grow_number x.size size time) where
+    -- its size and its count of blocks
+    abbrev old : ℕ
+    old = x.size
+
+    abbrev allocated : ℕ
+    allocated = x.allocated
+
+    -- its card among the store's
+    abbrev there : CardThere s.head s.cards object old allocated
+    unfolding FileFound
+    there = f
+
     -- the file
     pub the-file : FileReady s object old allocated
-    the-file = record { ready = w; there = f.there k }
+    the-file = record { ready = w; there = there }
 
     -- its card
     abbrev card : Card
-    card = (f.there k).card
+    card = there.card
 
     -- the store has it
     known_is : card_of (decode s) object ≡ some card
-    known_is = card-known s object old allocated (f.there k)
+    known_is = card-known s object old allocated there
 
     -- the test of its size, in the rules' words
     below-is : (b : Bool) → ltb size old ≡ b → is_below_size size card ≡ b
     unfolding is_below_size
-    below-is b p = rw (f.there k).size_is p
+    below-is b p = rw there.size_is p
 
     -- what holds with 5, 6 and 7 and where none comes holds of the number
     by_number : (P : ℕ → Type 0) → (is_past_limit size ≡ true → P 5) → (is_past_limit size ≡ false → ltb size old ≡ true → P 6)
@@ -119,7 +133,7 @@ module _ (s : Store) (w : StoreReady s) (object : ℕ) (known : Bool) (old alloc
 
     -- the size of the card
     size-apart : eqb size old ≡ false → size ≡ card.size → ⊥
-    size-apart q h = eqb-false size old q (h ∙ (f.there k).size_is)
+    size-apart q h = eqb-false size old q (h ∙ there.size_is)
 
     -- 5 to 7
     pub grow-refused : (n ≡ 0 → ⊥) → answered n 0 s ≡ result s [] outcome
@@ -143,7 +157,7 @@ module _ (s : Store) (w : StoreReady s) (object : ℕ) (known : Bool) (old alloc
       -- the size stays
       pub grow-same : size ≡ old → answered 0 0 s ≡ result s [] outcome
       unfolding result
-      grow-same q = sym (ap (result s []) (calls.grow-same s w.passes object size time card known_is passed.0 (below-is false passed.1) (q ∙ sym (f.there k).size_is)))
+      grow-same q = sym (ap (result s []) (calls.grow-same s w.passes object size time card known_is passed.0 (below-is false passed.1) (q ∙ sym there.size_is)))
 
       module _ (d : size ≡ old → ⊥) where
         -- what the change asks for
@@ -161,8 +175,8 @@ module _ (s : Store) (w : StoreReady s) (object : ℕ) (known : Bool) (old alloc
         goes : outcome ≡ carried_out 0 (grow_of object old size) time s
             (rewrite_units most_runs (decode s) (grow_of object old size) (grow_units (grow_of object old size)) (from_card (decode s).hint allocated))
         goes =
-            calls.grow-change s w.passes object size time card known_is passed.0 (below-is false passed.1) (λ h. d (h ∙ (f.there k).size_is)) (passed.2 d)
-            ∙ same card (card-object s object old allocated (f.there k)) (f.there k).size_is (f.there k).count_is
+            calls.grow-change s w.passes object size time card known_is passed.0 (below-is false passed.1) (λ h. d (h ∙ there.size_is)) (passed.2 d)
+            ∙ same card (card-object s object old allocated there) there.size_is there.count_is
           where
             same : (card : Card) → card.object ≡ object → card.size ≡ old → card.allocated ≡ allocated
                 → carried_out 0 (grow_change card.object card.size size) time s (plan_of most_runs grow_units (grow_change card.object card.size size) card s)

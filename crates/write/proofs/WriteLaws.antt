@@ -28,6 +28,8 @@ use Rattle.file.specs.Tests.{write_number}
 use Rattle.file.proofs.CallLaws.{write-missing, write-empty, write-past, write-late, write-change}
 use Rattle.carry.specs.Carry.{change_of}
 use Rattle.change.specs.Change.{ChangeReady, changed}
+use Rattle.std.proofs.Common.{Some, None}
+use Rattle.write.specs.declared.find.File.{File}
 use Rattle.write.specs.Call.{StoreReady, FileFound, FileReady, Taken, TimeFits, answered, write_of, written}
 use Rattle.write.proofs.UnitsLaws.{units-write}
 use Rattle.write.proofs.FindLaws.{card-missing, card-known, card-object}
@@ -173,14 +175,15 @@ module _ (s : Store) (object size allocated : ℕ) (f : FileReady s object size 
 
 -- ---- a file that is looked for
 
-module _ (s : Store) (w : StoreReady s) (object : ℕ) (known : Bool) (size allocated : ℕ) (f : FileFound s.head s.cards object known size allocated) where
+module _ (s : Store) (w : StoreReady s) (object : ℕ) where
   -- 3
-  pub file-missing : (limit offset : ℕ) (bytes : List ℕ) (seconds nanoseconds : ℕ) → known ≡ false
+  pub file-missing : FileFound s.head s.cards object None → (limit offset : ℕ) (bytes : List ℕ) (seconds nanoseconds : ℕ)
       → answered 3 0 s ≡ result s [] (write_outcome limit object offset bytes (record { seconds = seconds; nanoseconds = nanoseconds }) s)
   unfolding result number_of
-  file-missing limit offset bytes seconds nanoseconds k =
-      sym (ap (result s []) (write-missing s w.passes object limit offset bytes (record { seconds = seconds; nanoseconds = nanoseconds }) (card-missing s object known size allocated f k)))
+  file-missing f limit offset bytes seconds nanoseconds =
+      sym (ap (result s []) (write-missing s w.passes object limit offset bytes (record { seconds = seconds; nanoseconds = nanoseconds }) (card-missing s object f)))
 
   -- it is there
-  pub file-ready : known ≡ true → FileReady s object size allocated
-  file-ready k = record { ready = w; there = f.there k }
+  pub file-ready : (x : File) → FileFound s.head s.cards object (Some x) → FileReady s object x.size x.allocated
+  unfolding FileFound
+  file-ready x f = record { ready = w; there = f }

@@ -1,6 +1,6 @@
 -- What the calls write and grow are lent past refusals 1 and 2, the file that they change, and what they answer.
 -- Assumes nothing.
-use Rattle.std.specs.Prelude.{◌≡◌, Bool, true, false, List, [], ℕ, ◌+◌, ◌^◌, max, ◌≤◌, ◌<◌, length}
+use Rattle.std.specs.Prelude.{◌≡◌, Option, Some, None, List, [], ℕ, ◌+◌, ◌^◌, max, ◌≤◌, ◌<◌, length}
 use Rattle.std.proofs.Math.Option.{none, some}
 use Rattle.rules.specs.Lists.{find}
 use Rattle.rules.specs.Sizes.{most_size, most_transfer, most_allocated, most_runs}
@@ -15,6 +15,7 @@ use Rattle.rules.specs.Write.{carried_out}
 use Rattle.rules.proofs.PassLaws.{Passes}
 use Rattle.book.specs.Places.{card_is}
 use Rattle.rewrite.specs.Answers.{from_card}
+use Rattle.write.specs.declared.find.File.{File}
 
 -- a store in seven buffers that passes refusals 1 and 2
 pub record StoreReady (s : Store) : Type 0 where
@@ -36,10 +37,10 @@ pub record CardThere (head cards : List ℕ) (object size allocated : ℕ) : Typ
   pub short : size ≤ most_size
   pub most : allocated ≤ most_allocated
 
--- what a search for an object's card says: whether there is one, and its size and its count of blocks
-pub record FileFound (head cards : List ℕ) (object : ℕ) (known : Bool) (size allocated : ℕ) : Type 0 where
-  pub missing : known ≡ false → find (card_is object) (decode_book decode_card card_bytes (decode_head head).cards cards) ≡ none
-  pub there : known ≡ true → CardThere head cards object size allocated
+-- what a search for an object's card says: that there is none, or its size and its count of blocks
+unfoldable pub FileFound : (head cards : List ℕ) (object : ℕ) → Option File → Type 0
+FileFound head cards object None = find (card_is object) (decode_book decode_card card_bytes (decode_head head).cards cards) ≡ none
+FileFound head cards object (Some f) = CardThere head cards object f.size f.allocated
 
 -- a file of a store that passes
 pub record FileReady (s : Store) (object size allocated : ℕ) : Type 0 where

@@ -7,33 +7,27 @@ ghost use Rattle.write.specs.Call.{FileFound};
 use format::card::CARD_BYTES;
 use lent::Store;
 
-// Whether there is such a file, and if so its size and the blocks that its card counts.
+// A file's size, and the blocks that its card counts.
 #[derive(Clone, Copy)]
 pub struct File {
-    pub known: bool,
     pub size: u64,
     pub allocated: u64,
 }
 
-// The file of `object` among the cards that the head counts.
-pub fn find_file(store: &Store<'_>, object: u64) -> File
+// The file of `object` among the cards that the head counts, if it is there.
+pub fn find_file(store: &Store<'_>, object: u64) -> Option<File>
     requires { (length store.now.head.now ≡ head_bytes) × (card_bytes * (decode_head store.now.head.now).cards ≤ length store.now.cards.now) }
-    ensures { FileFound store.now.head.now store.now.cards.now object result.known result.size result.allocated }
+    ensures { FileFound store.now.head.now store.now.cards.now object result }
 {
     let h = store.decode_head();
     match book::find::find_card(store.cards, h.cards as usize, object) {
         Some(i) => {
             let card = format::card::decode_card(store.cards, CARD_BYTES * i);
-            File {
-                known: true,
+            Some(File {
                 size: card.size,
                 allocated: card.allocated,
-            }
+            })
         }
-        None => File {
-            known: false,
-            size: 0,
-            allocated: 0,
-        },
+        None => None,
     }
 }

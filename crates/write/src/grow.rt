@@ -8,6 +8,7 @@ ghost use Rattle.file.specs.Change.{numbered};
 ghost use Rattle.write.specs.Call.{StoreReady, FileReady, TimeFits, answered, grown};
 
 use super::MOST_RUNS;
+use format::refusal::Refusal;
 use lent::Store;
 use rewrite::Change;
 
@@ -60,10 +61,9 @@ pub fn grow_file(
     ensures same_places { SamePlaces store.old store.new }
     ensures grown { answered result 0 (store_of store.new) ≡ result_of (store_of store.old) [] (grow_outcome object size (record { seconds = seconds; nanoseconds = nanoseconds }) (store_of store.old)) }
 {
-    let file = super::find::find_file(store, object);
-    if !file.known {
-        return 3;
-    }
+    let Some(file) = super::find::find_file(store, object) else {
+        return Refusal::NoCard.number();
+    };
     let old_size = file.size;
     let number = file::tests::grow_refused(old_size, size, seconds, nanoseconds);
     if number != 0 {

@@ -7,21 +7,12 @@ ghost use Rattle.file.specs.Change.{numbered};
 ghost use Rattle.write.specs.Call.{StoreReady, FileReady, Taken, TimeFits, answered, written};
 
 use super::Done;
+use format::refusal::Refusal;
 use lent::Store;
 use rewrite::Change;
 
 // Units of a write at most: those that the most bytes touch, and the old tail unit before them.
 const MOST_UNITS: usize = 18;
-
-// The larger of two numbers.
-fn larger(a: u64, b: u64) -> u64
-    ensures { result ≡ max a b }
-{
-    if a < b {
-        return b;
-    }
-    a
-}
 
 // A write of bytes that are all taken, to the file of `object` with this size and count of blocks: 9 to 16, or 0 and the store as the rules leave it.
 fn write_taken(
@@ -41,7 +32,7 @@ fn write_taken(
     ensures written { numbered result (store_of store.new) ≡ written limit (store_of store.old) object size allocated offset bytes.now seconds nanoseconds }
 {
     let len = bytes.len();
-    let new_size = larger(size, offset + len as u64);
+    let new_size = size.max(offset + len as u64);
     let mut units = [0u64; MOST_UNITS];
     let k = kept::units::write_units(size, new_size, offset, len, &mut units);
     let change = Change {
@@ -125,13 +116,12 @@ pub fn write_file(
     ensures same_places { SamePlaces store.old store.new }
     ensures written { answered result.number result.count (store_of store.new) ≡ result_of (store_of store.old) [] (write_outcome limit object offset bytes.now (record { seconds = seconds; nanoseconds = nanoseconds }) (store_of store.old)) }
 {
-    let file = super::find::find_file(store, object);
-    if !file.known {
+    let Some(file) = super::find::find_file(store, object) else {
         return Done {
-            number: 3,
+            number: Refusal::NoCard.number(),
             count: 0,
         };
-    }
+    };
     write_sized(
         store,
         limit,
