@@ -9,7 +9,8 @@ ghost use Rattle.rewrite.specs.Answers.{from_card};
 ghost use Rattle.file.specs.Planned.{PlanReady, PlanRoom, ChangeFor, UnitsSettled, ChangePlanned};
 
 use format::sizes::BLOCK_BYTES;
-use rewrite::{Change, Plan};
+use kept::Change;
+use rewrite::Plan;
 
 // Bytes of the map of the most blocks.
 const MAP_BYTES: usize = 8192;

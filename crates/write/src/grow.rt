@@ -8,7 +8,7 @@ ghost use Rattle.file.specs.Change.{numbered};
 ghost use Rattle.write.specs.Call.{StoreReady, FileReady, TimeFits, answered, grown};
 
 use super::MOST_RUNS;
-use rewrite::Change;
+use kept::Change;
 
 // The file of `object` with this size and count of blocks grown to a larger size: 9 to 16, or 0 and the store as the rules leave it.
 fn grow_to(
@@ -31,7 +31,6 @@ fn grow_to(
     ensures { numbered result (lent image.new head.new cards.new extents.new groups.new used.new retired.new) ≡ grown (lent image.old head.old cards.old extents.old groups.old used.old retired.old) object old_size allocated size seconds nanoseconds }
 {
     let mut units = [0u64; 1];
-    let k = kept::units::grow_units(old_size, &mut units);
     let none = [0u8; 0];
     let change = Change {
         old_size,
@@ -39,6 +38,7 @@ fn grow_to(
         offset: 0,
         len: 0,
     };
+    let k = change.grow_units(&mut units);
     change::change_file(
         image,
         head,
