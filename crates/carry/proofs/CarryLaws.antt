@@ -33,7 +33,7 @@ use Rattle.mapping.specs.Entries.{extents_in, ExtentsRight}
 use Rattle.mapping.proofs.LookupLaws.{passes-image, passes-extents-most, passes-groups}
 use Rattle.kept.specs.Change.{ChangeFits}
 use Rattle.rewrite.specs.Plan.{laid_units}
-use Rattle.rewrite.specs.declared.Change as numbers
+use Rattle.kept.specs.declared.Change as numbers
 use Rattle.finish_units.specs.Carry.{UnitsFit}
 use Rattle.finish_books.specs.Buffers.{NewInside, OldInside, CardsRight}
 use Rattle.finish_books.specs.Groups.{groups_in, GroupsRight, UnitsRight}

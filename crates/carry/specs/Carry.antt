@@ -16,7 +16,7 @@ use Rattle.mapping.specs.Entries.{extents_in}
 use Rattle.kept.specs.Change.{ChangeFits}
 use Rattle.rewrite.specs.Plan.{laid_units}
 use Rattle.rewrite.specs.Arguments.{BlocksOf}
-use Rattle.rewrite.specs.declared.Change as numbers
+use Rattle.kept.specs.declared.Change as numbers
 use Rattle.finish_units.specs.Carry.{CarriesFor}
 use Rattle.finish_books.specs.Groups.{groups_in, UnitsRight}
 use Rattle.finish_extents.specs.Stretch.{Planned}

@@ -21,8 +21,8 @@ ghost use Rattle.carry.specs.Carry.{CarryReady, CarryFor};
 use finish_extents::Exchange;
 use finish_fit::Fit;
 use format::sizes::{BLOCK_BYTES, UNIT_BLOCKS};
+use kept::Change;
 use lent::Store;
-use rewrite::Change;
 
 // The blocks of units side by side: every unit but the last has all of its own.
 fn flat_blocks(new_size: u64, units: &[u64]) -> usize

@@ -30,7 +30,7 @@ use Rattle.mapping.proofs.LookupLaws.{decode-extents, decode-groups, passes-exte
 use Rattle.rewrite.specs.Plan.{laid_units}
 use Rattle.rewrite.specs.Arguments.{BlocksOf}
 use Rattle.rewrite.specs.Answers.{from_card}
-use Rattle.rewrite.specs.declared.Change as numbers
+use Rattle.kept.specs.declared.Change as numbers
 use Rattle.rewrite.specs.declared.Plan as answer
 use Rattle.finish_units.proofs.PlanFreeLaws.{planned-passed, planned-free, kept-first}
 use Rattle.finish_books.specs.Groups.{groups_in, UnitsRight}

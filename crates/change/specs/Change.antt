@@ -15,7 +15,7 @@ use Rattle.rules.proofs.ListLaws.{Each}
 use Rattle.rules.proofs.PassLaws.{Passes}
 use Rattle.kept.specs.Change.{ChangeFits}
 use Rattle.rewrite.specs.Answers.{from_card}
-use Rattle.rewrite.specs.declared.Change as numbers
+use Rattle.kept.specs.declared.Change as numbers
 use Rattle.carry.specs.Carry.{change_of}
 
 -- how a change's units lie in the file

@@ -10,8 +10,8 @@ ghost use Rattle.file.specs.Change.{numbered};
 ghost use Rattle.change.specs.Change.{ChangeReady, HeadSays, ArraysEach, changed};
 
 use format::sizes::UNIT_BLOCKS;
+use kept::Change;
 use lent::Store;
-use rewrite::Change;
 
 // Units of a change at most: those that a write of the most bytes touches, and the old tail unit before them.
 const MOST_UNITS: usize = 18;

@@ -26,7 +26,7 @@ use Rattle.mapping.proofs.EntryLaws.{entries-most}
 use Rattle.mapping.proofs.LookupLaws.{checksum-slot, unit-mapping}
 use Rattle.rewrite.specs.Arguments.{LookedUp, PlanFor, BlocksOf, DeviceFits, ArraysFit}
 use Rattle.rewrite.specs.Answers.{from_card, UnitsPlanned}
-use Rattle.rewrite.specs.declared.Change as numbers
+use Rattle.kept.specs.declared.Change as numbers
 use Rattle.rewrite.specs.declared.Plan as answer
 use Rattle.file.specs.LookUp.{EachBlock, EachUnit}
 use Rattle.file.specs.Planned.{PlanReady, PlanRoom, ChangeFor, UnitsSettled, ChangePlanned}

@@ -15,7 +15,7 @@ use Rattle.mapping.specs.Entries.{extents_in, ExtentsRight}
 use Rattle.rewrite.specs.Plan.{laid_units}
 use Rattle.rewrite.specs.Arguments.{Described, LookedUp}
 use Rattle.rewrite.specs.Answers.{from_card, Placed}
-use Rattle.rewrite.specs.declared.Change as numbers
+use Rattle.kept.specs.declared.Change as numbers
 use Rattle.rewrite.specs.declared.Plan as answer
 
 -- the buffers of a store of at least a block, in which units can be looked up and planned

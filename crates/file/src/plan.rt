@@ -9,8 +9,9 @@ ghost use Rattle.rewrite.specs.Answers.{from_card};
 ghost use Rattle.file.specs.Planned.{PlanReady, PlanRoom, ChangeFor, UnitsSettled, ChangePlanned};
 
 use format::sizes::BLOCK_BYTES;
+use kept::Change;
 use lent::Store;
-use rewrite::{Change, Plan};
+use rewrite::Plan;
 
 // Bytes of the map of the most blocks.
 const MAP_BYTES: usize = 8192;

@@ -1,20 +1,32 @@
 -- Laws of the blocks that do not stay, in the shape in which code counts and assigns them: by one entry more.
 -- Assumes nothing.
 use mathlib.Core.Path.{◌≡◌, refl, sym, ap, ◌∙◌}
-use mathlib.Core.Bool.{not}
+use mathlib.Core.Bool.{Bool, true, false, not, ◌&&◌, cond}
 use mathlib.Core.List.{List, [], ◌∷◌, ◌++◌}
 use mathlib.Core.Option.{Option, none, some}
 use Prim.Native.Nat.{ℕ, zero, suc, ◌+◌, ◌-◌, ◌≤◌, ◌<◌}
+use native.Mathlib.Nat.{add-zero}
 use native.Mathlib.Numerals.{add-one}
 use native.Mathlib.Omega.{arith}
-use lib.ListN.{length, take, drop, get_or, set, length-append, length-set, drop_of_length-le}
-use lib.Seq.{length-take-le, take-suc-set, take_all, take-add, drop-cons, drop-nil, get_or-take}
-use Rattle.rules.specs.Lists.{given, count}
+use lib.Dec.{eqb}
+use lib.ListN.{length, take, drop, get_or, set, get_or-map, length-append}
+use lib.Seq.{length-take-le, take-suc-set, take_all, take-add, drop-cons, drop-nil, get_or-drop}
+use mir.Val.{bool_byte}
+use borrow.Author.Tests.{ne_eqb}
+use Rattle.std.specs.List.{count_by}
+use Rattle.std.proofs.lemmas.List.Recursion.{is_count_by}
+use Rattle.rules.specs.Lists.{given}
 use Rattle.rules.specs.Kept.{wanted, assigned, superseded}
 use Rattle.rules.proofs.ListLaws.{count-append}
 use Rattle.rules.proofs.KeptLaws.{wanted-some, wanted-none, wanted-most}
 use Rattle.mapping.specs.Entries.{entry_of, entries}
-use Rattle.kept.proofs.EntryLaws.{length-entries, get_or-entries, entries-append, entries-last, entry-none, entry-some}
+use Rattle.kept.specs.Blocks.{superseded_at}
+use Rattle.kept.proofs.EntryLaws.{length-entries, entries-append, entries-last, entry-none, entry-some}
+
+-- a test's number
+byte : (b : Bool) → bool_byte b ≤ 1
+byte true = omega arith
+byte false = omega arith
 
 -- ---- how many are wanted
 
@@ -35,32 +47,23 @@ missing-one e q = (rw (entry-none e q, wanted-none [], wanted-nil) refl, omega a
 pub missing-none : (e : ℕ) → (e ≡ 0 → ⊥) → (0 ≡ wanted (entry_of e ∷ [])) × (0 ≤ 1)
 missing-none e n = (rw (entry-some e n, wanted-some (e - 1) [], wanted-nil) refl, omega arith)
 
+-- either
+pub missing-is : (e r : ℕ) → r ≡ bool_byte (eqb e 0) → (r ≡ wanted (entry_of e ∷ [])) × (r ≤ 1)
+missing-is zero r q = rw q (missing-one 0 refl)
+missing-is (suc e) r q = rw (q, ne_eqb (suc e) 0 (λ z. omega arith)) (missing-none (suc e) (λ z. omega arith))
+
 -- one more than of the entries before
 wanted-last : (xs : List ℕ) (i : ℕ) → i < length xs → wanted (entries (take (i + 1) xs)) ≡ wanted (entries (take i xs)) + wanted (entry_of (get_or xs i 0) ∷ [])
 wanted-last xs i l = ap wanted (entries-last xs i l) ∙ wanted-append (entries (take i xs)) (entry_of (get_or xs i 0) ∷ [])
 
--- the first i entries are counted
-pub record Wanting (kept : List ℕ) (n r i : ℕ) : Type 0 where
-  pub most : i ≤ n
-  pub count : r ≡ wanted (entries (take i kept))
-  pub few : r ≤ i
-
--- none is
-pub wanting-none : (kept : List ℕ) (n : ℕ) → Wanting kept n 0 0
-wanting-none kept n = record { most = omega arith; count = unfold entries in sym wanted-nil; few = omega arith }
-
-module _ (kept : List ℕ) (n r i : ℕ) (h : Wanting kept n r i) where
-  -- one more is
-  pub wanting-more : (v : ℕ) → i < n → n ≤ length kept → (v ≡ wanted (entry_of (get_or kept i 0) ∷ [])) × (v ≤ 1) → Wanting kept n (r + v) (i + 1)
-  wanting-more v l m e =
-      record { most = omega arith; count = rw (wanted-last kept i (omega arith), ← h.count, ← e.0) refl; few = omega (arith, h.few, e.1) }
-
-  -- all are
-  pub wanting-all : n ≤ i → (r ≡ wanted (entries (take n kept))) × (r ≤ n)
-  wanting-all l =
-      let m : i ≤ n = h.most in
-      let e : i ≡ n = omega arith in
-      (rw e at h.count, omega (arith, h.few))
+-- they are the zeros among the entries
+pub wanted-zeros : (xs : List ℕ) → wanted (entries xs) ≡ count_by (λ e. eqb e 0) xs
+unfolding entries
+wanted-zeros = is_count_by (λ xs. wanted (entries xs)) (λ e. eqb e 0) wanted-nil step
+  where
+    step : (e : ℕ) (xs : List ℕ) → wanted (entries (e ∷ xs)) ≡ cond (eqb e 0) (1 + wanted (entries xs)) (wanted (entries xs))
+    step zero xs = rw (entry-none 0 refl) (wanted-none (entries xs) ∙ omega arith)
+    step (suc e) xs = rw (entry-some (suc e) (λ q. omega arith), ne_eqb (suc e) 0 (λ q. omega arith)) (wanted-some _ (entries xs))
 
 -- ---- where those given go
 
@@ -97,49 +100,47 @@ one-assigned (suc e) b v j new l f w =
     rw (entry-some (suc e) n) (ap (λ (y : ℕ). y ∷ []) (sym (f.1 n)))
 
 -- the first i blocks are assigned, and j of those given
-pub record Assigning (kept : List ℕ) (n : ℕ) (new before blocks : List ℕ) (i j : ℕ) : Type 0 where
-  pub most : i ≤ n
+pub record Assigning (kept new blocks : List ℕ) (i j : ℕ) : Type 0 where
   pub count : j ≡ wanted (entries (take i kept))
   pub few : j ≤ i
-  pub same : length blocks ≡ length before
   pub list : take i blocks ≡ assigned (entries (take i kept)) (take j new)
 
 -- none is
-pub assigning-none : (kept : List ℕ) (n : ℕ) (new blocks : List ℕ) → Assigning kept n new blocks blocks 0 0
-assigning-none kept n new blocks =
-    record { most = omega arith; count = unfold entries in sym wanted-nil; few = omega arith; same = refl; list = unfold entries assigned in refl }
+pub assigning-none : (kept new blocks : List ℕ) → Assigning kept new blocks 0 0
+assigning-none kept new blocks =
+    record { count = unfold entries in sym wanted-nil; few = omega arith; list = unfold entries assigned in refl }
 
-module _ (kept : List ℕ) (n : ℕ) (new before blocks : List ℕ) (i j : ℕ) (h : Assigning kept n new before blocks i j) (l : i < n) (m : n ≤ length kept) (o : wanted (entries (take n kept)) ≤ length new) where
+module _ (kept new blocks : List ℕ) (i j : ℕ) (h : Assigning kept new blocks i j) (l : i < length kept) (o : wanted (entries kept) ≤ length new) where
+  -- the entries so far want no more than all
+  wanted-to : (k : ℕ) → k ≤ length kept → wanted (entries (take k kept)) ≤ wanted (entries kept)
+  wanted-to k m = rw (take_all (length kept) kept (omega arith)) at (wanted-mono kept k (length kept) m)
+
   -- a place that is not kept wants one more
-  pub assigning-room : get_or kept i 0 ≡ 0 → j < wanted (entries (take n kept))
+  pub assigning-room : get_or kept i 0 ≡ 0 → j < wanted (entries kept)
   assigning-room e =
-      omega (arith, h.count, wanted-last kept i (omega arith), (missing-one (get_or kept i 0) e).0, wanted-mono kept (i + 1) n (omega arith))
+      omega (arith, h.count, wanted-last kept i l, (missing-one (get_or kept i 0) e).0, wanted-to (i + 1) (omega arith))
 
   -- one more is assigned
-  pub assigning-more : (b v : ℕ) → n ≤ length blocks → (get_or kept i 0 ≡ 0 → b ≡ get_or new j 0) × ((get_or kept i 0 ≡ 0 → ⊥) → b ≡ get_or kept i 0 - 1)
-      → (v ≡ wanted (entry_of (get_or kept i 0) ∷ [])) × (v ≤ 1) → Assigning kept n new before (set blocks i b) (i + 1) (j + v)
+  pub assigning-more : (b v : ℕ) → i < length blocks → (get_or kept i 0 ≡ 0 → b ≡ get_or new j 0) × ((get_or kept i 0 ≡ 0 → ⊥) → b ≡ get_or kept i 0 - 1)
+      → (v ≡ wanted (entry_of (get_or kept i 0) ∷ [])) × (v ≤ 1) → Assigning kept new (set blocks i b) (i + 1) (j + v)
   assigning-more b v k e w =
-      let a : length (take j new) ≡ wanted (entries (take i kept)) = length-take-le j new (omega (arith, h.count, o, wanted-mono kept i n (omega arith))) ∙ h.count in
+      let a : length (take j new) ≡ wanted (entries (take i kept)) = length-take-le j new (omega (arith, h.count, o, wanted-to i (omega arith))) ∙ h.count in
       let one : assigned (entry_of (get_or kept i 0) ∷ []) (take v (drop j new)) ≡ b ∷ [] =
       one-assigned (get_or kept i 0) b v j new (λ z. omega (arith, o, assigning-room z)) e w.0 in
       record {
-        most = omega arith;
-        count = rw (wanted-last kept i (omega arith), ← h.count, ← w.0) refl;
+        count = rw (wanted-last kept i l, ← h.count, ← w.0) refl;
         few = omega (arith, h.few, w.1);
-        same = length-set blocks i b ∙ h.same;
         list =
-            rw (entries-last kept i (omega arith), take-add j v new, assigned-append (entries (take i kept)) (entry_of (get_or kept i 0) ∷ []) (take j new) (take v (drop j new)) a, one, ← h.list, add-one i)
-            (take-suc-set blocks i b (omega arith));
+            rw (entries-last kept i l, take-add j v new, assigned-append (entries (take i kept)) (entry_of (get_or kept i 0) ∷ []) (take j new) (take v (drop j new)) a, one, ← h.list, add-one i)
+            (take-suc-set blocks i b k);
       }
 
 -- all are
-pub assigning-all : (kept : List ℕ) (n : ℕ) (new before blocks : List ℕ) (i j : ℕ) → Assigning kept n new before blocks i j → n ≤ i
-    → take n blocks ≡ assigned (entries (take n kept)) (take (wanted (entries (take n kept))) new)
-assigning-all kept n new before blocks i j h l =
-    let m : i ≤ n = h.most in
-    let e : i ≡ n = omega arith in
-    let q : take i blocks ≡ assigned (entries (take i kept)) (take (wanted (entries (take i kept))) new) = h.list ∙ ap (λ (k : ℕ). assigned (entries (take i kept)) (take k new)) h.count in
-    rw e at q
+pub assigning-all : (kept new blocks : List ℕ) (i j : ℕ) → Assigning kept new blocks i j → i ≡ length kept
+    → take (length kept) blocks ≡ assigned (entries kept) (take (wanted (entries kept)) new)
+assigning-all kept new blocks i j h e =
+    let t : take i kept ≡ kept = take_all i kept (omega arith) in
+    rw (← e) (h.list ∙ rw (h.count, t) refl)
 
 -- ---- how many are superseded
 
@@ -153,64 +154,47 @@ superseded-last (some p ∷ os) o [] = ap (λ (zs : List ℕ). p ∷ zs) (supers
 superseded-last (some p ∷ os) o (none ∷ ks) = ap (λ (zs : List ℕ). p ∷ zs) (superseded-last os o ks)
 superseded-last (some p ∷ os) o (some q ∷ ks) = superseded-last os o ks
 
--- no old block, none superseded
-pub at_none : (e : ℕ) (ks : List (Option ℕ)) → e ≡ 0 → (0 ≡ length (superseded (entry_of e ∷ []) ks)) × (0 ≤ 1)
-unfolding superseded
-at_none e [] q = (rw (entry-none e q) refl, omega arith)
-at_none e (k ∷ ks) q = (rw (entry-none e q) refl, omega arith)
+-- of one old entry, at a place of those kept
+superseded-one : (e : ℕ) (kept : List ℕ) (i : ℕ) → length (superseded (entry_of e ∷ []) (drop i (entries kept))) ≡ bool_byte (superseded_at e kept i)
+unfolding superseded superseded_at entries entry_of
+superseded-one e kept i = go e (drop i (entries kept)) (get_or kept i 0) here
+  where
+    here : get_or (drop i (entries kept)) 0 none ≡ entry_of (get_or kept i 0)
+    here = rw (get_or-drop i (entries kept) 0 none, add-zero i) (get_or-map entry_of kept i 0)
 
-module _ (e : ℕ) (kept : List ℕ) (n i : ℕ) (d : e ≡ 0 → ⊥) where
-  -- the new unit has no such place
-  pub at-past : n ≤ length kept → n ≤ i → (1 ≡ length (superseded (entry_of e ∷ []) (drop i (entries (take n kept))))) × (1 ≤ 1)
-  unfolding superseded
-  at-past m l =
-      let c : length (entries (take n kept)) ≡ n = length-entries (take n kept) ∙ length-take-le n kept m in
-      let z : drop i (entries (take n kept)) ≡ [] = drop_of_length-le (entries (take n kept)) {i = i} (omega arith) in
-      (rw (z, entry-some e d) refl, omega arith)
-
-  -- what is kept from there on
-  here : n ≤ length kept → i < n → drop i (entries (take n kept)) ≡ entry_of (get_or kept i 0) ∷ drop (suc i) (entries (take n kept))
-  here m l =
-      let t : length (take n kept) ≡ n = length-take-le n kept m in
-      let c : length (entries (take n kept)) ≡ n = length-entries (take n kept) ∙ t in
-      drop-cons (entries (take n kept)) i none (omega arith)
-      ∙ ap (λ (o : Option ℕ). o ∷ drop (suc i) (entries (take n kept))) (get_or-entries (take n kept) i (omega arith) ∙ ap entry_of (get_or-take n kept i 0 l))
-
-  -- the block is not kept
-  pub at-lost : n ≤ length kept → i < n → get_or kept i 0 ≡ 0 → (1 ≡ length (superseded (entry_of e ∷ []) (drop i (entries (take n kept))))) × (1 ≤ 1)
-  unfolding superseded
-  at-lost m l z = (rw (here m l, entry-some e d, entry-none (get_or kept i 0) z) refl, omega arith)
-
-  -- it is
-  pub at-kept : n ≤ length kept → i < n → (get_or kept i 0 ≡ 0 → ⊥) → (0 ≡ length (superseded (entry_of e ∷ []) (drop i (entries (take n kept))))) × (0 ≤ 1)
-  unfolding superseded
-  at-kept m l z = (rw (here m l, entry-some e d, entry-some (get_or kept i 0) z) refl, omega arith)
+    go : (e : ℕ) (ks : List (Option ℕ)) (k : ℕ) → get_or ks 0 none ≡ entry_of k → length (superseded (entry_of e ∷ []) ks) ≡ bool_byte (not (eqb e 0) && eqb k 0)
+    go zero [] k q = refl
+    go zero (x ∷ ks) k q = refl
+    go (suc e) [] zero q = rw (ne_eqb (suc e) 0 (λ z. omega arith)) refl
+    go (suc e) [] (suc k) q = absurd (cc)
+    go (suc e) (none ∷ ks) zero q = rw (ne_eqb (suc e) 0 (λ z. omega arith)) refl
+    go (suc e) (none ∷ ks) (suc k) q = absurd (cc)
+    go (suc e) (some p ∷ ks) zero q = absurd (cc)
+    go (suc e) (some p ∷ ks) (suc k) q = rw (ne_eqb (suc e) 0 (λ z. omega arith), ne_eqb (suc k) 0 (λ z. omega arith)) refl
 
 -- the first i places are counted
-pub record Counting (old kept : List ℕ) (n r i : ℕ) : Type 0 where
-  pub most : i ≤ 16
-  pub count : r ≡ length (superseded (entries (take i old)) (entries (take n kept)))
-  pub few : r ≤ i
+pub record Counting (old kept : List ℕ) (n i : ℕ) : Type 0 where
+  pub count : n ≡ length (superseded (entries (take i old)) (entries kept))
+  pub few : n ≤ i
 
 -- none is
-pub counting-none : (old kept : List ℕ) (n : ℕ) → Counting old kept n 0 0
-counting-none old kept n = record { most = omega arith; count = unfold entries superseded in refl; few = omega arith }
+pub counting-none : (old kept : List ℕ) → Counting old kept 0 0
+counting-none old kept = record { count = unfold entries superseded in refl; few = omega arith }
 
-module _ (old kept : List ℕ) (n r i : ℕ) (p : length old ≡ 16) (h : Counting old kept n r i) where
+module _ (old kept : List ℕ) (n i : ℕ) (h : Counting old kept n i) where
   -- one more is
-  pub counting_more : (v : ℕ) → i < 16 → (v ≡ length (superseded (entry_of (get_or old i 0) ∷ []) (drop i (entries (take n kept))))) × (v ≤ 1) → Counting old kept n (r + v) (i + 1)
-  counting_more v l e =
+  pub counting_more : i < length old → (b : Bool) → b ≡ superseded_at (get_or old i 0) kept i → (v : ℕ) → v ≡ bool_byte b → Counting old kept (n + v) (i + 1)
+  counting_more l b q v e =
       let c : length (entries (take i old)) ≡ i = length-entries (take i old) ∙ length-take-le i old (omega arith) in
+      let w : v ≡ length (superseded (entry_of (get_or old i 0) ∷ []) (drop i (entries kept))) = e ∙ rw q (sym (superseded-one (get_or old i 0) kept i)) in
       record {
-        most = omega arith;
         count =
-            rw (entries-last old i (omega arith), superseded-last (entries (take i old)) (entry_of (get_or old i 0)) (entries (take n kept)), c, h.count, e.0)
-            (sym (length-append (superseded (entries (take i old)) (entries (take n kept))) (superseded (entry_of (get_or old i 0) ∷ []) (drop i (entries (take n kept))))));
-        few = omega (arith, h.few, e.1);
+            rw (entries-last old i l, superseded-last (entries (take i old)) (entry_of (get_or old i 0)) (entries kept), c, h.count, w)
+            (sym (length-append (superseded (entries (take i old)) (entries kept)) (superseded (entry_of (get_or old i 0) ∷ []) (drop i (entries kept)))));
+        few = omega (arith, h.few, e, byte b);
       }
 
   -- all are
-  pub counting-all : 16 ≤ i → (r ≡ length (superseded (entries old) (entries (take n kept)))) × (r ≤ 16)
-  counting-all l =
-      let m : i ≤ 16 = h.most in
-      (h.count ∙ ap (λ (xs : List ℕ). length (superseded (entries xs) (entries (take n kept)))) (take_all i old (omega arith)), omega (arith, h.few))
+  pub counting-all : i ≡ length old → (n ≡ length (superseded (entries old) (entries kept))) × (n ≤ length old)
+  counting-all e =
+      (h.count ∙ ap (λ (xs : List ℕ). length (superseded (entries xs) (entries kept))) (take_all i old (omega arith)), omega (arith, h.few))

@@ -1,63 +1,18 @@
 -- A change by its numbers: each test of the rules over a change is one over its numbers, and each return of the code's tests is one law.
 -- Assumes nothing.
-use mathlib.Core.Path.{◌≡◌, refl, sym}
-use mathlib.Core.Bool.{true, false, not, and-false}
-use Prim.Native.Nat.{ℕ, suc, ◌+◌, ◌-◌, ◌*◌, ◌/◌, ◌≤◌, ◌<◌, min, max}
+use mathlib.Core.Path.{◌≡◌, refl}
+use mathlib.Core.Bool.{Bool, true, false, not}
+use Prim.Native.Nat.{ℕ, suc, ◌+◌, ◌-◌, ◌*◌, ◌≤◌, ◌<◌, min, max}
 use native.Mathlib.Omega.{arith}
 use lib.Dec.{ltb, leb}
 use borrow.Author.Tests.{ltb-true, leb-true, leb-false, lt-ltb, le-ltb, lt-leb, le-leb}
-use Rattle.rules.specs.Lists.{pick◌then◌else◌}
-use Rattle.rules.specs.Sizes.{unit_bytes}
+use Rattle.rules.specs.Lists.{begun}
+use Rattle.rules.specs.Sizes.{block_bytes, unit_bytes}
 use Rattle.rules.specs.Units.{Change, change_end, valid_length, written_in, covers_old, reads_old, written_from, written_to, touches}
 use Rattle.rules.specs.Kept.{intact, blocks_after}
-use Rattle.rules.proofs.CountLaws.{same_test}
-use Rattle.rules.proofs.ListLaws.{test-cases, if-true, if-false}
+use Rattle.rules.proofs.ListLaws.{test-cases}
 use Rattle.kept.specs.Change.{IsChange, written_between, intact_at, covers_new}
 use Rattle.kept.specs.Placed.{Placed}
-
--- ---- the valid length of a unit
-
-module _ (size unit : ℕ) where
-  -- the file ends before the unit
-  pub valid-none : size ≤ unit * 65536 → (0 ≡ valid_length size unit) × (0 ≤ 65536)
-  unfolding valid_length
-  valid-none l = (omega arith, omega arith)
-
-  -- it ends behind it
-  pub valid-whole : unit * 65536 < size → 65536 ≤ size - unit * 65536 → (65536 ≡ valid_length size unit) × (65536 ≤ 65536)
-  unfolding valid_length
-  valid-whole l m = (omega arith, omega arith)
-
-  -- it ends in it
-  pub valid-part : unit * 65536 < size → size - unit * 65536 < 65536 → (size - unit * 65536 ≡ valid_length size unit) × (size - unit * 65536 ≤ 65536)
-  unfolding valid_length
-  valid-part l m = (omega arith, omega arith)
-
--- ---- written bytes between two places
-
-module _ (start len from to : ℕ) where
-  -- there is no place between them
-  pub written-nowhere : to ≤ from → false ≡ written_between start (start + len) from to
-  unfolding written_between
-  written-nowhere l = sym (le-ltb (max start from) (min (start + len) to) (omega arith))
-
-  -- no byte is written
-  pub written-nothing : len ≡ 0 → false ≡ written_between start (start + len) from to
-  unfolding written_between
-  written-nothing e = sym (le-ltb (max start from) (min (start + len) to) (omega arith))
-
-  -- all are before the first place
-  pub written-before : start + len ≤ from → false ≡ written_between start (start + len) from to
-  unfolding written_between
-  written-before l = sym (le-ltb (max start from) (min (start + len) to) (omega arith))
-
-  -- the last written byte is behind the first place
-  pub written-some : from < to → (len ≡ 0 → ⊥) → from < start + len → ltb start to ≡ written_between start (start + len) from to
-  unfolding written_between
-  written-some l n m =
-      same_test (ltb start to) (ltb (max start from) (min (start + len) to))
-      (λ t. let k : start < to = ltb-true start to t in lt-ltb (max start from) (min (start + len) to) (omega arith))
-      (λ t. let k : max start from < min (start + len) to = ltb-true (max start from) (min (start + len) to) t in lt-ltb start to (omega arith))
 
 -- ---- the rules' tests by the numbers of a change
 
@@ -79,9 +34,9 @@ module _ (c : Change) (before after start len : ℕ) (h : IsChange c before afte
   intact-is unit i = rw (h.old, h.new, h.from, h.written) refl
 
   -- the unit's blocks after the change, by its valid length
-  pub blocks-are : (unit v : ℕ) → v ≡ valid_length after unit → (v + 4095) / 4096 ≡ blocks_after c unit
+  pub blocks-are : (unit : ℕ) → begun (valid_length after unit) block_bytes ≡ blocks_after c unit
   unfolding blocks_after
-  blocks-are unit v e = rw (h.new, e) refl
+  blocks-are unit = rw h.new refl
 
   -- a written byte falls into a unit
   pub touches-is : (unit : ℕ) → touches c unit ≡ written_between start (start + len) (unit * 65536) (unit * 65536 + 65536)
@@ -130,26 +85,17 @@ module _ (start len unit f t : ℕ) (w : written_between start (start + len) (un
   pub part-inside : (f - start + (t - f) ≤ len) × (f - unit * 65536 + (t - f) ≤ 65536)
   part-inside = (omega (arith, part-order, p, q), omega (arith, part-order, p, q))
 
--- ---- the candidate's entry
+-- ---- an intact block
 
-module _ (settled start end from i entry : ℕ) where
-  -- the block is not inside both valid lengths
-  pub candidate-outside : settled < i * 4096 + 4096 → 0 ≡ (pick intact_at settled start end from i then entry else 0)
+module _ (settled start end from i : ℕ) where
+  -- the block is inside both valid lengths
+  pub intact-inside : i * 4096 + 4096 ≤ settled → (w : Bool) → w ≡ written_between start end (from + i * 4096) (from + i * 4096 + 4096) → not w ≡ intact_at settled start end from i
   unfolding intact_at
-  candidate-outside l = sym (if-false (intact_at settled start end from i) entry 0 (rw (lt-leb (suc i * 4096) settled (omega arith)) refl))
+  intact-inside l w e =
+      let d : from + suc i * 4096 ≡ from + i * 4096 + 4096 = omega arith in
+      rw (d, ← e, le-leb (suc i * 4096) settled (omega arith)) refl
 
-  -- a written byte falls in it
-  pub candidate-written : true ≡ written_between start end (from + i * 4096) (from + i * 4096 + 4096) → 0 ≡ (pick intact_at settled start end from i then entry else 0)
+  -- it is not
+  pub intact-outside : settled < i * 4096 + 4096 → leb (i * 4096 + 4096) settled ≡ intact_at settled start end from i
   unfolding intact_at
-  candidate-written w =
-      let e : from + suc i * 4096 ≡ from + i * 4096 + 4096 = omega arith in
-      let f : intact_at settled start end from i ≡ false = rw (e, ← w) (and-false (leb (suc i * 4096) settled)) in
-      sym (if-false (intact_at settled start end from i) entry 0 f)
-
-  -- it is intact
-  pub candidate-kept : i * 4096 + 4096 ≤ settled → false ≡ written_between start end (from + i * 4096) (from + i * 4096 + 4096) → entry ≡ (pick intact_at settled start end from i then entry else 0)
-  unfolding intact_at
-  candidate-kept l w =
-      let e : from + suc i * 4096 ≡ from + i * 4096 + 4096 = omega arith in
-      let t : intact_at settled start end from i ≡ true = rw (e, ← w, le-leb (suc i * 4096) settled (omega arith)) refl in
-      sym (if-true (intact_at settled start end from i) entry 0 t)
+  intact-outside l = rw (lt-leb (i * 4096 + 4096) settled l, lt-leb (suc i * 4096) settled (omega arith)) refl

@@ -3,15 +3,15 @@
 use mathlib.Core.Path.{◌≡◌, refl, sym, ap, ◌∙◌}
 use mathlib.Core.Logic.{◌⊎◌, inl, inr}
 use mathlib.Core.Bool.{Bool, true, false, ◌&&◌}
-use mathlib.Core.List.{List, [], ◌∷◌, ◌++◌, map, map-append, append_assoc, append-nil}
+use mathlib.Core.List.{List, [], ◌∷◌, ◌++◌, map, map-append, append-nil}
 use mathlib.Core.Option.{Option, none}
 use Prim.Native.Nat.{ℕ, zero, suc, ◌+◌, ◌-◌, ◌*◌, ◌≤◌, ◌<◌, min}
-use native.Mathlib.Nat.{zero-add, sub_self}
+use native.Mathlib.Nat.{zero-add}
 use native.Mathlib.Numerals.{add-one}
 use native.Mathlib.Decide.{dec_lt}
 use native.Mathlib.Omega.{arith}
 use lib.Dec.{leb}
-use lib.ListN.{length, take, get_or, set, replicate, length-map, length-set, length-replicate, get_or-append, get_or-map, replicate-append-replicate}
+use lib.ListN.{length, take, drop, get_or, set, replicate, length-map, length-drop, length-append, drop_of_length-le, length-replicate, get_or-append, get_or-map, replicate-append-replicate}
 use lib.Seq.{length-take-le, take-suc-set, take_all, take_at, get_or-append-add}
 use borrow.Author.Tests.{lt-leb, le-leb}
 use Rattle.rules.specs.Lists.{pick◌then◌else◌, range}
@@ -25,53 +25,9 @@ use Rattle.kept.specs.Retained.{candidate_entries, limited_entries, FromOld, Ret
 use Rattle.kept.proofs.ChangeLaws.{intact-is}
 use Rattle.kept.proofs.EntryLaws.{length-entries, entries_none}
 
--- ---- entries cleared from a place on
-
--- the entries from n up to i are cleared
-pub record Clearing (first : List ℕ) (n : ℕ) (kept : List ℕ) (i : ℕ) : Type 0 where
-  pub least : n ≤ i
-  pub most : i ≤ length first
-  pub same : length kept ≡ length first
-  pub list : take i kept ≡ take n first ++ replicate (i - n) 0
-
--- none is yet
-pub clearing-none : (kept : List ℕ) (n : ℕ) → n ≤ length kept → Clearing kept n kept n
-clearing-none kept n l =
-    record { least = omega arith; most = l; same = refl; list = rw (sub_self n) (sym (append-nil (take n kept))) }
-
-module _ (first kept : List ℕ) (n i : ℕ) (h : Clearing first n kept i) where
-  -- one more
-  pub clearing-more : i < length kept → Clearing first n (set kept i 0) (i + 1)
-  clearing-more l =
-      let s : length kept ≡ length first = h.same in
-      let m : n ≤ i = h.least in
-      let e : i + 1 - n ≡ i - n + 1 = omega arith in
-      record {
-        least = omega arith;
-        most = omega arith;
-        same = length-set kept i 0 ∙ s;
-        list =
-            rw (add-one i, take-suc-set kept i 0 l, h.list, ← add-one i, e, ← replicate-append-replicate {A = ℕ} (i - n) 1 0)
-            (append_assoc (take n first) (replicate (i - n) 0) (0 ∷ []));
-      }
-
-  -- all
-  pub clearing-all : length kept ≤ i → kept ≡ take n first ++ replicate (length first - n) 0
-  clearing-all l =
-      let s : length kept ≡ length first = h.same in
-      let m : i ≤ length first = h.most in
-      let e : i ≡ length first = omega arith in
-      sym (take_all i kept l) ∙ h.list ∙ ap (λ (k : ℕ). take n first ++ replicate (k - n) 0) e
-
 -- ---- the entries of intact blocks
 
 module _ (settled start end from : ℕ) (old : List ℕ) where
-  -- the first i entries are chosen
-  pub record Choosing (n : ℕ) (first kept : List ℕ) (i : ℕ) : Type 0 where
-    pub most : i ≤ n
-    pub same : length kept ≡ length first
-    pub list : take i kept ≡ candidate_entries settled start end from i old
-
   -- one entry
   abbrev entry_at : ℕ → ℕ
   entry_at i = pick intact_at settled start end from i then get_or old i 0 else 0
@@ -82,26 +38,24 @@ module _ (settled start end from : ℕ) (old : List ℕ) where
   candidate_entries-last i =
       ap (map entry_at) (range-add 0 i 1) ∙ map-append entry_at (range 0 i) (range (0 + i) 1) ∙ ap (λ (k : ℕ). map entry_at (range 0 i) ++ (entry_at k ∷ [])) (zero-add i)
 
-  -- none is chosen yet
-  pub choosing-none : (n : ℕ) (kept : List ℕ) → Choosing n kept kept 0
-  choosing-none n kept = record { most = omega arith; same = refl; list = unfold candidate_entries range in refl }
+  -- the first i entries are chosen
+  pub record Choosing (kept : List ℕ) (i : ℕ) : Type 0 where
+    pub list : take i kept ≡ candidate_entries settled start end from i old
 
-  module _ (n : ℕ) (first kept : List ℕ) (i : ℕ) (h : Choosing n first kept i) where
+  -- none is chosen yet
+  pub choosing-none : (kept : List ℕ) → Choosing kept 0
+  choosing-none kept = record { list = unfold candidate_entries range in refl }
+
+  module _ (kept : List ℕ) (i : ℕ) (h : Choosing kept i) where
     -- one more is
-    pub choosing-more : (v : ℕ) → i < n → i < length kept → v ≡ entry_at i → Choosing n first (set kept i v) (i + 1)
-    choosing-more v l m e =
-        record {
-          most = omega arith;
-          same = length-set kept i v ∙ h.same;
-          list = rw (candidate_entries-last i, ← h.list, ← e, add-one i) (take-suc-set kept i v m);
-        }
+    pub choosing-more : i < length kept → (t : Bool) → t ≡ intact_at settled start end from i → (v : ℕ) → v ≡ (pick t then get_or old i 0 else 0) → Choosing (set kept i v) (i + 1)
+    choosing-more m t q v e =
+        let w : v ≡ entry_at i = rw q at e in
+        record { list = rw (candidate_entries-last i, ← h.list, ← w, add-one i) (take-suc-set kept i v m) }
 
     -- all are
-    pub choosing-all : n ≤ i → take n kept ≡ candidate_entries settled start end from n old
-    choosing-all l =
-        let m : i ≤ n = h.most in
-        let e : i ≡ n = omega arith in
-        rw e at h.list
+    pub choosing-all : i ≡ length kept → (n : ℕ) → length kept ≡ n → kept ≡ candidate_entries settled start end from n old
+    choosing-all e n q = sym (take_all i kept (omega arith)) ∙ h.list ∙ rw (e, q) refl
 
   -- as many as there are blocks
   pub length-candidate_entries : (n : ℕ) → length (candidate_entries settled start end from n old) ≡ n
@@ -113,23 +67,36 @@ module _ (settled start end from : ℕ) (old : List ℕ) where
   unfolding candidate_entries
   get_or-candidate_entries n i l = get_or-map-range entry_at 0 n i 0 l ∙ ap entry_at (zero-add i)
 
+  -- put back before what lay behind them, they are the first ones
+  pub choosing-front : (n : ℕ) (kept front : List ℕ) → n ≤ 16 → length kept ≡ 16 → front ≡ candidate_entries settled start end from (length (take n kept)) old
+      → (length (front ++ drop n kept) ≡ 16) × (take n (front ++ drop n kept) ≡ candidate_entries settled start end from n old)
+  choosing-front n kept front l k e =
+      let t : length (take n kept) ≡ n = length-take-le n kept (omega arith) in
+      let c : front ≡ candidate_entries settled start end from n old = rw t at e in
+      let m : length front ≡ n = ap (λ (xs : List ℕ). length xs) c ∙ length-candidate_entries n in
+      let d : length (drop n kept) ≡ length kept - n = length-drop n kept in
+      (length-append front (drop n kept) ∙ omega arith, take_at front (drop n kept) n m ∙ c)
+
 -- ---- the limit of runs
 
-module _ (limit n r : ℕ) (kept after : List ℕ) (few : length kept ≡ 16) (h : (r ≡ runs (entries (take n kept))) × (r ≤ n)) where
+module _ (limit n r : ℕ) (kept : List ℕ) (few : length kept ≡ 16) (h : r ≡ runs (entries (take n kept))) where
   -- the blocks form more runs than the limit
-  pub limited-over : limit < r → after ≡ take 0 kept ++ replicate (length kept - 0) 0 → after ≡ limited_entries limit n kept
+  pub limited-over : limit < r → (after : List ℕ) → after ≡ replicate (length kept) 0 → after ≡ limited_entries limit n kept
   unfolding limited_entries
-  limited-over l e =
-      let d : length kept - 0 ≡ 16 = omega arith in
-      let t : leb (runs (entries (take n kept))) limit ≡ false = rw (← h.0) (lt-leb r limit l) in
-      e ∙ rw d (sym (if-false _ (take n kept ++ replicate (16 - n) 0) (replicate 16 0) t))
+  limited-over l after e =
+      let t : leb (runs (entries (take n kept))) limit ≡ false = rw (← h) (lt-leb r limit l) in
+      e ∙ rw few (sym (if-false _ (take n kept ++ replicate (16 - n) 0) (replicate 16 0) t))
 
-  -- they do not
-  pub limited-within : r ≤ limit → after ≡ take n kept ++ replicate (length kept - n) 0 → after ≡ limited_entries limit n kept
+  -- they do not: zeros are put behind the first n
+  pub limited-within : r ≤ limit → n ≤ 16 → (zs : List ℕ) → zs ≡ replicate (length (take (length kept - n) (drop n kept))) 0
+      → take n kept ++ (zs ++ drop (length kept - n) (drop n kept)) ≡ limited_entries limit n kept
   unfolding limited_entries
-  limited-within l e =
-      let t : leb (runs (entries (take n kept))) limit ≡ true = rw (← h.0) (le-leb r limit l) in
-      e ∙ rw few (sym (if-true _ (take n kept ++ replicate (16 - n) 0) (replicate 16 0) t))
+  limited-within l m zs e =
+      let t : leb (runs (entries (take n kept))) limit ≡ true = rw (← h) (le-leb r limit l) in
+      let d : length (drop n kept) ≡ length kept - n = length-drop n kept in
+      let c : length (take (length kept - n) (drop n kept)) ≡ 16 - n = length-take-le (length kept - n) (drop n kept) (omega arith) ∙ ap (λ (k : ℕ). k - n) few in
+      let z : drop (length kept - n) (drop n kept) ≡ [] = drop_of_length-le (drop n kept) {i = length kept - n} (omega arith) in
+      rw (z, append-nil zs, e, c) (sym (if-true _ (take n kept ++ replicate (16 - n) 0) (replicate 16 0) t))
 
 -- ---- what is kept is what the rules keep
 

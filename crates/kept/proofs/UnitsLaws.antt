@@ -2,14 +2,15 @@
 -- Assumes nothing.
 use mathlib.Core.Path.{◌≡◌, refl, sym, ap, ◌∙◌}
 use mathlib.Core.Bool.{Bool, true, false, not, ◌&&◌, and-false}
-use mathlib.Core.List.{List, [], ◌∷◌, ◌++◌, append_assoc, append-nil}
+use mathlib.Core.List.{List, [], ◌∷◌, ◌++◌}
 use Prim.Native.Nat.{ℕ, zero, suc, ◌+◌, ◌-◌, ◌*◌, ◌/◌, ◌%◌, ◌≤◌, ◌<◌, max}
 use native.Mathlib.Nat.{sub_self}
 use native.Mathlib.Numerals.{add-one}
 use native.Mathlib.Omega.{arith}
 use lib.Dec.{eqb, ltb}
-use lib.ListN.{length, take, get_or, set, length-set}
-use lib.Seq.{take-suc-set}
+use lib.ListN.{length, take, drop, get_or, set}
+use lib.Seq.{take-suc-set, take-add, take_at, drop_at, length-take-le}
+use Rattle.std.proofs.lemmas.List.{take-append-le}
 use borrow.Author.Tests.{ltb-true, ltb-false, eqb-false, not-true, lt-ltb, le-ltb, eq-eqb, ne_eqb}
 use Rattle.rules.specs.Lists.{pick◌then◌else◌, range, filter, member, ascending, neighbours, begun}
 use Rattle.rules.specs.Units.{Change, change_end, touched_units, partial_tail, write_units, grow_units}
@@ -71,43 +72,33 @@ range_last : (first n : ℕ) → range first (n + 1) ≡ range first n ++ ((firs
 unfolding range
 range_last first n = range-add first n 1
 
--- the units from first up to u stand behind the first n
-pub record Putting (before : List ℕ) (first past n : ℕ) (units : List ℕ) (r u : ℕ) : Type 0 where
-  pub least : first ≤ u
-  pub most : u ≤ past
-  pub count : r ≡ n + (u - first)
-  pub same : length units ≡ length before
-  pub list : take r units ≡ take n before ++ range first (u - first)
+-- the units from first up to u are written down
+pub record Putting (first : ℕ) (units : List ℕ) (u : ℕ) : Type 0 where
+  pub list : take (u - first) units ≡ range first (u - first)
 
 -- none yet
-pub putting-none : (units : List ℕ) (first past n : ℕ) → first ≤ past → Putting units first past n units n first
-putting-none units first past n l =
-    record { least = omega arith; most = l; count = omega arith; same = refl; list = rw (sub_self first) (unfold range in sym (append-nil (take n units))) }
+pub putting-none : (first : ℕ) (units : List ℕ) → Putting first units first
+putting-none first units = record { list = rw (sub_self first) (unfold range in refl) }
 
-module _ (before : List ℕ) (first past n : ℕ) (units : List ℕ) (r u : ℕ) (h : Putting before first past n units r u) where
-  -- one more
-  pub putting-more : u < past → n + (past - first) ≤ length before → Putting before first past n (set units r u) (r + 1) (u + 1)
-  putting-more l m =
-      let s : length units ≡ length before = h.same in
-      let a : first ≤ u = h.least in
-      let c : r ≡ n + (u - first) = h.count in
-      let e : u + 1 - first ≡ u - first + 1 = omega arith in
-      let d : first + (u - first) ≡ u = omega arith in
-      let last : range first (u - first + 1) ≡ range first (u - first) ++ (u ∷ []) = range_last first (u - first) ∙ ap (λ (k : ℕ). range first (u - first) ++ (k ∷ [])) d in
-      record {
-        least = omega arith;
-        most = omega arith;
-        count = omega arith;
-        same = length-set units r u ∙ s;
-        list = rw (add-one r, take-suc-set units r u (omega arith), h.list, e, last) (append_assoc (take n before) (range first (u - first)) (u ∷ []));
-      }
+-- one more
+pub putting-more : (first : ℕ) (units : List ℕ) (u : ℕ) → Putting first units u → first ≤ u → u - first < length units → Putting first (set units (u - first) u) (u + 1)
+putting-more first units u h l m =
+    let e : u + 1 - first ≡ u - first + 1 = omega arith in
+    let d : first + (u - first) ≡ u = omega arith in
+    record { list = rw (e, range_last first (u - first), d, add-one (u - first), take-suc-set units (u - first) u m, h.list) refl }
 
-  -- all
-  pub putting-all : past ≤ u → (r ≡ n + (past - first)) × (take r units ≡ take n before ++ range first (past - first))
-  putting-all l =
-      let m : u ≤ past = h.most in
-      let e : u ≡ past = omega arith in
-      (rw (← e) h.count, rw (← e) h.list)
+-- all
+pub putting-all : (first past : ℕ) (units : List ℕ) (u : ℕ) → Putting first units u → u ≡ past → take (past - first) units ≡ range first (past - first)
+putting-all first past units u h e = rw (← e) h.list
+
+-- a write behind the first n of a list, put back there
+pub put-behind : (units front : List ℕ) (n m : ℕ) → n ≤ length units → m ≤ length front → (xs : List ℕ) → take m front ≡ xs
+    → take (n + m) (take n units ++ (front ++ drop (length units - n) (drop n units))) ≡ take n units ++ xs
+put-behind units front n m l k xs e =
+    let ys : List ℕ = front ++ drop (length units - n) (drop n units) in
+    let c : length (take n units) ≡ n = length-take-le n units l in
+    take-add n m (take n units ++ ys) ∙ rw (take_at (take n units) ys n c, drop_at (take n units) ys n c)
+    (ap (λ (zs : List ℕ). take n units ++ zs) (take-append-le m front _ k ∙ e))
 
 -- ---- a write's units
 

@@ -1,3 +1,4 @@
+pub mod Blocks
 pub mod Change
 pub mod Placed
 pub mod Retained

@@ -3,31 +3,24 @@ ghost use Rattle.std.specs.Prelude.{◌≡◌, [], ◌∷◌, ℕ, ◌-◌, ◌�
 ghost use Rattle.rules.specs.Sizes.{unit_blocks, most_blocks};
 ghost use Rattle.rules.specs.Kept.{wanted, assigned, superseded};
 ghost use Rattle.mapping.specs.Entries.{entry_of, entries};
+ghost use Rattle.kept.specs.Blocks.{superseded_at};
 
-use format::sizes::UNIT_BLOCKS;
+use super::block_of;
 
 // 1 for an entry that is none, 0 for one that is kept.
+// Kept: 0 is none in the arrays of entries that mapping fills and that image and file are lent too.
 fn missing(entry: u32) -> usize
     ensures { (result ≡ wanted (entry_of entry ∷ [])) × (result ≤ 1) }
 {
-    if entry == 0 {
-        return 1;
-    }
-    0
+    usize::from(entry == 0)
 }
 
-// The blocks that a unit wants anew: one for each of the first `n` entries that is none.
-pub fn wanted(kept: &[u32], n: usize) -> usize
-    requires { n ≤ length kept.now }
-    ensures { (result ≡ wanted (entries (take n kept.now))) × (result ≤ n) }
+// The blocks that a unit wants anew: one for each of its entries that is none.
+// Kept: 0 is none in the arrays of entries that mapping fills and that image and file are lent too.
+pub fn wanted(kept: &[u32]) -> usize
+    ensures { (result ≡ wanted (entries kept.now)) × (result ≤ length kept.now) }
 {
-    let mut r = 0;
-    let mut i = 0;
-    while i < n {
-        r += missing(kept[i]);
-        i += 1;
-    }
-    r
+    kept.iter().filter(|entry| **entry == 0).count()
 }
 
 // The block of an entry, and where it is none the `j`-th of those given.
@@ -35,56 +28,43 @@ fn block_at(entry: u32, new: &[u64], j: usize) -> u32
     requires { (entry ≡ 0 → j < length new.now) × (entry ≡ 0 → get_or new.now j 0 < most_blocks) }
     ensures { (entry ≡ 0 → result ≡ get_or new.now j 0) × ((entry ≡ 0 → ⊥) → result ≡ entry - 1) }
 {
-    if entry == 0 {
-        return new[j] as u32;
+    match block_of(entry) {
+        Some(block) => block,
+        None => new[j] as u32,
     }
-    entry - 1
 }
 
-// The first `n` blocks of a unit: those kept where they are kept, and those given, in their order, in the other places.
-pub fn assign(kept: &[u32], n: usize, new: &[u64], blocks: &mut [u32])
-    requires n_in_bounds { (n ≤ length kept.now) × (n ≤ length blocks.old) }
-    requires kept_in_bounds { wanted (entries (take n kept.now)) ≤ length new.now }
-    requires by_index { (i : ℕ) → i < wanted (entries (take n kept.now)) → get_or new.now i 0 < most_blocks }
-    ensures { take n blocks.new ≡ assigned (entries (take n kept.now)) (take (wanted (entries (take n kept.now))) new.now) }
+// A unit's blocks: those kept where they are kept, and those given, in their order, in the other places.
+pub fn assign(kept: &[u32], new: &[u64], blocks: &mut [u32])
+    requires n_in_bounds { length kept.now ≤ length blocks.old }
+    requires kept_in_bounds { wanted (entries kept.now) ≤ length new.now }
+    requires by_index { (i : ℕ) → i < wanted (entries kept.now) → get_or new.now i 0 < most_blocks }
+    ensures { take (length kept.now) blocks.new ≡ assigned (entries kept.now) (take (wanted (entries kept.now)) new.now) }
 {
-    let mut i = 0;
     let mut j = 0;
-    while i < n {
-        let entry = kept[i];
-        blocks[i] = block_at(entry, new, j);
-        j += missing(entry);
-        i += 1;
+    for (i, entry) in kept.iter().enumerate() {
+        blocks[i] = block_at(*entry, new, j);
+        j += missing(*entry);
     }
 }
 
-// 1 where the old unit had a block at place `i` and the new one does not keep it, 0 elsewhere.
-fn superseded_at(entry: u32, kept: &[u32], n: usize, i: usize) -> usize
-    requires { n ≤ length kept.now }
-    ensures { (result ≡ length (superseded (entry_of entry ∷ []) (drop i (entries (take n kept.now))))) × (result ≤ 1) }
+// Whether the old unit had a block in this entry, and the new one, which has those of `kept`, keeps none at place `i`.
+// Kept: 0 is none in the arrays of entries that mapping fills and that image and file are lent too.
+#[tactic(auto, unfolding(crate::specs::Blocks::superseded_at))]
+pub fn is_superseded(entry: u32, kept: &[u32], i: usize) -> bool
+    ensures { result ≡ superseded_at entry kept.now i }
 {
-    if entry == 0 {
-        return 0;
-    }
-    if n <= i {
-        return 1;
-    }
-    if kept[i] == 0 {
-        return 1;
-    }
-    0
+    entry != 0 && kept.get(i).copied().unwrap_or(0) == 0
 }
 
 // The unit's old blocks that it no longer has.
-pub fn count_superseded(old: &[u32], kept: &[u32], n: usize) -> usize
-    requires { (length old.now ≡ unit_blocks) × (n ≤ length kept.now) }
-    ensures { (result ≡ length (superseded (entries old.now) (entries (take n kept.now)))) × (result ≤ unit_blocks) }
+pub fn count_superseded(old: &[u32], kept: &[u32]) -> usize
+    requires { length old.now ≡ unit_blocks }
+    ensures { (result ≡ length (superseded (entries old.now) (entries kept.now))) × (result ≤ unit_blocks) }
 {
-    let mut r = 0;
-    let mut i = 0;
-    while i < UNIT_BLOCKS {
-        r += superseded_at(old[i], kept, n, i);
-        i += 1;
+    let mut n = 0;
+    for (i, entry) in old.iter().enumerate() {
+        n += usize::from(is_superseded(*entry, kept, i));
     }
-    r
+    n
 }

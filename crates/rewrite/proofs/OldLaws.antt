@@ -7,7 +7,6 @@ use native.Mathlib.Omega.{arith}
 use lib.Dec.{ltb}
 use lib.ListN.{replicate, length-replicate}
 use borrow.Author.Tests.{ltb-true, not-true, not-false}
-use Rattle.rules.specs.Lists.{pick◌then◌else◌}
 use Rattle.rules.specs.Sizes.{unit_bytes}
 use Rattle.rules.specs.Units.{Change, touches, reads_old, covers_old, valid_length}
 use Rattle.rules.specs.Inspect as rules
@@ -20,7 +19,6 @@ use Rattle.format.specs.Refusals.{refusal_of}
 use Rattle.format.specs.declared.refusal.Refusal.{Refusal}
 use Rattle.inspect.specs.Answer.{Answers}
 use Rattle.inspect.specs.declared.Inspected.TheVariants.{Hole, Checked}
-use Rattle.rewrite.specs.declared.Old.{Old}
 use Rattle.rewrite.specs.declared.Old.TheVariants.{Refused, Untouched, Unread, Verified}
 use Rattle.rewrite.specs.Steps.{read_as, old_as}
 

@@ -14,7 +14,7 @@ use Rattle.rules.specs.Store.{Volume}
 use Rattle.rules.specs.Units.{Change}
 use Rattle.rules.specs.Rewrite.{Progress}
 use Rattle.rules.proofs.ByteLaws.{length-patch, part-patch, length_part}
-use Rattle.rewrite.specs.declared.Change as numbers
+use Rattle.kept.specs.declared.Change as numbers
 use Rattle.rewrite.specs.declared.Progress as code
 use Rattle.rewrite.specs.declared.UnitPlan.{UnitPlan}
 use Rattle.rewrite.specs.Arguments.{Described, LookedUp, BlocksOf}

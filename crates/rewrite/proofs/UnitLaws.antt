@@ -32,7 +32,7 @@ use Rattle.inspect.specs.Mapped.{inspect_mapped}
 use Rattle.inspect.proofs.InspectLaws.{inspect-mapped}
 use Rattle.rewrite.specs.declared.Old.{Old}
 use Rattle.rewrite.specs.declared.Old.TheVariants.{Refused, Untouched}
-use Rattle.rewrite.specs.declared.Change as numbers
+use Rattle.kept.specs.declared.Change as numbers
 use Rattle.rewrite.specs.declared.Progress as code
 use Rattle.rewrite.specs.declared.UnitPlan.{UnitPlan}
 use Rattle.rewrite.specs.Plan.{old_bytes, verified, kept_by, laid_unit}

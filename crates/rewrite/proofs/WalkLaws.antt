@@ -14,7 +14,7 @@ use Rattle.rules.specs.Rewrite.{Progress}
 use Rattle.rules.proofs.ListLaws.{test-cases}
 use Rattle.allocation.specs.Carried.{Carried}
 use Rattle.allocation.proofs.MarkLaws.{carried_none}
-use Rattle.rewrite.specs.declared.Change as numbers
+use Rattle.kept.specs.declared.Change as numbers
 use Rattle.rewrite.specs.declared.Progress as code
 use Rattle.rewrite.specs.declared.UnitPlan.{UnitPlan}
 use Rattle.rewrite.specs.declared.Plan as answer

@@ -9,7 +9,7 @@ use Rattle.rules.specs.Inspect.{unit_mapping, checksum_of}
 use Rattle.rules.proofs.PassLaws.{Lawful}
 use Rattle.mapping.specs.Entries.{entry_of, entries}
 use Rattle.kept.specs.Change.{IsChange}
-use Rattle.rewrite.specs.declared.Change as numbers
+use Rattle.kept.specs.declared.Change as numbers
 
 -- the change has these numbers, and is one of this object's file on a volume with this image, this uuid and so many blocks
 pub record Described (image uuid : List ℕ) (total object : ℕ) (n : numbers.Change) (v : Volume) (c : Change) : Type 0 where

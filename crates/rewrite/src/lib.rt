@@ -15,7 +15,7 @@ ghost use Rattle.crc32c_tables.specs.Register.{Tables};
 ghost use Rattle.mapping.specs.Entries.{entry_of, entries, Inside};
 ghost use Rattle.inspect.specs.Mapped.{inspect_mapped};
 ghost use Rattle.allocation.specs.Carried.{Carried};
-ghost use Rattle.kept.specs.Change.{IsChange, ChangeFits};
+ghost use Rattle.kept.specs.Change.{IsChange};
 ghost use Rattle.rewrite.specs.Steps.{old_as};
 ghost use Rattle.rewrite.specs.Arguments.{Described, LookedUp, PlanFor, BlocksOf, DeviceFits, ArraysFit};
 ghost use Rattle.rewrite.specs.Given.{Gives, Lays};
@@ -23,6 +23,7 @@ ghost use Rattle.rewrite.specs.Answers.{from_card, Carries, ChangedAt, UnitPlann
 
 use format::card::{Card, Time};
 use format::sizes::UNIT_BLOCKS;
+use kept::Change;
 
 // Refusal 13: too few blocks are free.
 const NO_SPACE: u32 = 13;
@@ -41,15 +42,6 @@ pub enum Old {
     Untouched,
     Unread,
     Verified,
-}
-
-// A change to a file, without its bytes: the sizes before and after, and where the written bytes stand.
-#[derive(Clone, Copy)]
-pub struct Change {
-    pub old_size: u64,
-    pub new_size: u64,
-    pub offset: u64,
-    pub len: usize,
 }
 
 // What passes from unit to unit: the hint, the card's count, and the cursors of the blocks taken. The blocks themselves are set in the map.
@@ -101,22 +93,18 @@ fn verify_old(
 ) -> Old
     requires tables { Tables t.now }
     requires w_len { length w.old ≡ 4624 }
-    requires change_fits { ChangeFits change.old_size change.new_size change.offset change.len }
     requires unit_bytes_bound { (unit * unit_bytes ≤ change.new_size) × (slot ≤ 2 ^ 32) }
     requires len { (length old.now ≡ unit_blocks) × Inside image.now old.now }
     ensures { (c : rules.Change) → IsChange c change.old_size change.new_size change.offset change.len → result ≡ old_as c unit (inspect_mapped image.now uuid.now object change.old_size unit (entries old.now) (entry_of slot)) }
 {
-    let old_size = change.old_size;
-    let offset = change.offset;
-    let len = change.len;
-    if !kept::tests::reads_old(old_size, offset, len, unit) {
+    if !change.reads_old(unit) {
         return Old::Unread;
     }
-    match inspect::inspect_unit(t, w, image, uuid, object, old_size, unit, slot, old) {
+    match inspect::inspect_unit(t, w, image, uuid, object, change.old_size, unit, slot, old) {
         Err(r) => Old::Refused(r.number()),
         Ok(inspect::Inspected::Checked) => Old::Verified,
         Ok(inspect::Inspected::Hole) => {
-            if kept::tests::touches(offset, len, unit) {
+            if change.touches(unit) {
                 return Old::Unread;
             }
             Old::Untouched
@@ -139,14 +127,14 @@ fn give_blocks(
     ensures count_le_unit_blocks { result.count ≤ unit_blocks }
     ensures by_index { (used : ℕ → Bool) (taken : List ℕ) → Carried total used taken map.old progress.cursors.past → Gives total used taken progress.hint (entries (take n kept.now)) n map.new blocks.new result }
 {
-    let want = kept::blocks::wanted(kept, n);
+    let want = kept::blocks::wanted(&kept[..n]);
     let cursors = progress.cursors;
     let a = allocation::allocate_unit(map, total, progress.hint, cursors, want);
     let t = a.taken;
     let new = t.blocks;
     let past = a.cursors;
     if want <= t.count {
-        kept::blocks::assign(kept, n, &new, blocks);
+        kept::blocks::assign(&kept[..n], &new, blocks);
         return Given {
             enough: true,
             count: t.count,
@@ -208,28 +196,17 @@ fn lay_out(
     progress: Progress,
 ) -> UnitPlan
     requires total_le_most_blocks { (total ≤ most_blocks) × (total ≤ 8 * length map.old) }
-    requires change_fits { ChangeFits change.old_size change.new_size change.offset change.len }
     requires unit_bytes_bound { (unit * unit_bytes ≤ change.new_size) × (progress.allocated ≤ most_allocated) }
     requires len { (length old.now ≡ unit_blocks) × (length kept.old ≡ unit_blocks) × (length blocks.old ≡ unit_blocks) }
     ensures rewritten_value { (result.rewritten ≡ true) × (result.progress.allocated ≤ most_allocated) }
     ensures lays { (c : rules.Change) (used : ℕ → Bool) (taken : List ℕ) → IsChange c change.old_size change.new_size change.offset change.len → Carried total used taken map.old progress.cursors.past → Lays total used taken progress.hint progress.allocated (entries old.now) (retained_blocks limit c unit verified (entries old.now)) (blocks_after c unit) map.new kept.new blocks.new result }
 {
-    let n = kept::kept::retained_blocks(
-        limit,
-        change.old_size,
-        change.new_size,
-        change.offset,
-        change.len,
-        unit,
-        verified,
-        old,
-        kept,
-    );
+    let n = change.retained_blocks(limit, unit, verified, old, kept);
     let g = give_blocks(map, total, progress, kept, n, blocks);
     if !g.enough {
         return refused(NO_SPACE, progress);
     }
-    let gone = kept::blocks::count_superseded(old, kept, n) as u64;
+    let gone = kept::blocks::count_superseded(old, &kept[..n]) as u64;
     let allocated = progress.allocated;
     if allocated < gone {
         return refused(COUNT_DISAGREES, progress);
@@ -272,7 +249,6 @@ fn rewrite_unit(
     requires tables { Tables t.now }
     requires w_len { length w.old ≡ 4624 }
     requires device_fits { DeviceFits image.now map.old total }
-    requires change_fits { ChangeFits change.old_size change.new_size change.offset change.len }
     requires unit_bytes_bound { (unit * unit_bytes ≤ change.new_size) × (slot ≤ 2 ^ 32) × (progress.allocated ≤ most_allocated) }
     requires len { (length old.now ≡ unit_blocks) × (length kept.old ≡ unit_blocks) × (length blocks.old ≡ unit_blocks) }
     requires blocks_of { BlocksOf total old.now }
@@ -317,7 +293,6 @@ fn rewrite_at(
     requires tables { Tables t.now }
     requires w_len { length w.old ≡ 4624 }
     requires device_fits { DeviceFits image.now map.old total }
-    requires change_fits { ChangeFits change.old_size change.new_size change.offset change.len }
     requires arrays_fit { ArraysFit change.new_size total units.now slots.now old.now kept.old blocks.old }
     requires i_in_bounds { (i < length units.now) × (progress.allocated ≤ most_allocated) }
     ensures allocated_le_most_allocated { result.progress.allocated ≤ most_allocated }
@@ -380,7 +355,6 @@ pub fn rewrite_units(
     requires tables { Tables t.now }
     requires w_len { length w.old ≡ 4624 }
     requires device_fits { DeviceFits image.now map.old total }
-    requires change_fits { ChangeFits change.old_size change.new_size change.offset change.len }
     requires arrays_fit { ArraysFit change.new_size total units.now slots.now old.now kept.old blocks.old }
     requires allocated_le_most_allocated { allocated ≤ most_allocated }
     ensures skip_in_bounds { (result.skip ≤ length units.now) × (result.allocated ≤ most_allocated) }

@@ -19,9 +19,9 @@ use Rattle.rules.specs.Rewrite.{rewrite_units}
 use Rattle.rules.specs.Write.{plan_of, carried_out, grow_outcome}
 use Rattle.rules.proofs.ListLaws.{test-cases, if-true, if-false}
 use Rattle.rules.proofs.EnterLaws.{TimeRight, time-right}
-use Rattle.kept.specs.Change.{IsChange}
+use Rattle.kept.specs.Change.{IsChange, ChangeFits}
 use Rattle.rewrite.specs.Answers.{from_card}
-use Rattle.rewrite.specs.declared.Change as numbers
+use Rattle.kept.specs.declared.Change as numbers
 use Rattle.file.specs.Change.{numbered}
 use Rattle.file.specs.Tests.{grow_number}
 use Rattle.file.proofs.CallLaws as calls
@@ -34,11 +34,15 @@ use Rattle.write.proofs.FindLaws.{card-missing, card-known, card-object}
 
 -- ---- a larger size
 
+-- the change's numbers fit
+pub grow-fits : (old size : ℕ) → old < size → size ≤ most_size → ChangeFits old size 0 0
+grow-fits old size l m = record { size = m; grows = omega (arith, l); inside = omega arith; most = omega arith }
+
 module _ (s : Store) (object old allocated size seconds nanoseconds : ℕ) (us : List ℕ)
-    (u : (c : Change) (after start len : ℕ) → IsChange c old after start len → us ≡ grow_units c) where
+    (fits : ChangeFits old size 0 0) (u : (c : Change) (after start len : ℕ) → IsChange c old after start len → us ≡ grow_units c) where
   -- the change as the code has it
   abbrev code : numbers.Change
-  code = record { old_size = old; new_size = size; offset = 0; len = 0 }
+  code = record { old_size = old; new_size = size; offset = 0; len = 0; fits = fits }
 
   -- the units that were written down are the change's
   units-are : us ≡ grow_units (grow_of object old size)
@@ -55,7 +59,7 @@ module _ (s : Store) (object old allocated size seconds nanoseconds : ℕ) (us :
     count = f.there.count_is;
     most = f.there.most;
     long = refl;
-    fits = record { size = m; grows = omega (arith, l); inside = omega arith; most = omega arith };
+    fits = fits;
     early = h.early;
     part = h.part;
     units = rw units-are (units-grow object old size l);

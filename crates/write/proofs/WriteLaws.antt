@@ -20,9 +20,9 @@ use Rattle.rules.specs.Rewrite.{rewrite_units}
 use Rattle.rules.specs.Write.{plan_of, carried_out, write_outcome}
 use Rattle.rules.proofs.ListLaws.{test-cases, if-true, if-false}
 use Rattle.rules.proofs.EnterLaws.{TimeRight, time-right}
-use Rattle.kept.specs.Change.{IsChange}
+use Rattle.kept.specs.Change.{IsChange, ChangeFits}
 use Rattle.rewrite.specs.Answers.{from_card}
-use Rattle.rewrite.specs.declared.Change as numbers
+use Rattle.kept.specs.declared.Change as numbers
 use Rattle.file.specs.Change.{numbered}
 use Rattle.file.specs.Tests.{write_number}
 use Rattle.file.proofs.CallLaws.{write-missing, write-empty, write-past, write-late, write-change}
@@ -37,18 +37,24 @@ use Rattle.write.proofs.AnswerLaws.{Answers, change-answers}
 
 -- ---- bytes that are all taken
 
+-- the change's numbers fit
+pub taken-fits : (s : Store) (object size allocated offset : ℕ) (bytes : List ℕ) (new : ℕ) → new ≡ max size (offset + length bytes) → FileReady s object size allocated → Taken offset bytes
+    → ChangeFits size new offset (length bytes)
+taken-fits s object size allocated offset bytes new q f t =
+    record { size = omega (arith, q, t.end, f.there.short); grows = omega (arith, q); inside = omega (arith, q); most = t.few }
+
 module _ (s : Store) (object size allocated offset : ℕ) (bytes : List ℕ) (seconds nanoseconds new : ℕ) (us : List ℕ)
-    (q : new ≡ max size (offset + length bytes)) (u : (c : Change) → IsChange c size new offset (length bytes) → us ≡ write_units c) where
+    (q : new ≡ max size (offset + length bytes)) (fits : ChangeFits size new offset (length bytes)) (u : (c : Change) → IsChange c size new offset (length bytes) → us ≡ write_units c) where
   -- the change as the code has it
-  abbrev code : ℕ → numbers.Change
-  code n = record { old_size = size; new_size = n; offset = offset; len = length bytes }
+  abbrev code : numbers.Change
+  code = record { old_size = size; new_size = new; offset = offset; len = length bytes; fits = fits }
 
   -- the units that were written down are the change's
-  units-are : us ≡ write_units (change_of object (code new) bytes)
-  units-are = u (change_of object (code new) bytes) (record { old = refl; new = refl; from = refl; written = refl })
+  units-are : us ≡ write_units (change_of object code bytes)
+  units-are = u (change_of object code bytes) (record { old = refl; new = refl; from = refl; written = refl })
 
   -- what the change asks for
-  pub write-ready : FileReady s object size allocated → Taken offset bytes → TimeFits seconds nanoseconds → ChangeReady s object (code new) bytes allocated seconds nanoseconds us
+  pub write-ready : FileReady s object size allocated → Taken offset bytes → TimeFits seconds nanoseconds → ChangeReady s object code bytes allocated seconds nanoseconds us
   write-ready f t h = record {
     passes = f.ready.passes;
     lent_bytes = f.ready.lent_bytes;
@@ -58,18 +64,18 @@ module _ (s : Store) (object size allocated offset : ℕ) (bytes : List ℕ) (se
     count = f.there.count_is;
     most = f.there.most;
     long = refl;
-    fits = record { size = omega (arith, q, t.end, f.there.short); grows = omega (arith, q); inside = omega (arith, q); most = t.few };
+    fits = fits;
     early = h.early;
     part = h.part;
-    units = rw units-are (units-write (change_of object (code new) bytes) t.some' t.few (unfold change_end in q));
+    units = rw units-are (units-write (change_of object code bytes) t.some' t.few (unfold change_end in q));
   }
 
   -- what becomes of it
-  pub write_done : (limit r : ℕ) (t : Store) → numbered r t ≡ changed limit s object (code new) bytes allocated seconds nanoseconds us
+  pub write_done : (limit r : ℕ) (t : Store) → numbered r t ≡ changed limit s object code bytes allocated seconds nanoseconds us
       → numbered r t ≡ written limit s object size allocated offset bytes seconds nanoseconds
   write_done limit r t e =
-      e ∙ ap (changed limit s object (code new) bytes allocated seconds nanoseconds) units-are
-      ∙ ap (λ (n : ℕ). changed limit s object (code n) bytes allocated seconds nanoseconds (write_units (change_of object (code n) bytes))) q
+      e ∙ ap (changed limit s object code bytes allocated seconds nanoseconds) units-are
+      ∙ rw q refl
 
 -- ---- a file of known size
 

@@ -9,8 +9,8 @@ ghost use Rattle.write.specs.Call.{StoreReady, FileReady, TimeFits, answered, gr
 
 use super::MOST_RUNS;
 use format::refusal::Refusal;
+use kept::Change;
 use lent::Store;
-use rewrite::Change;
 
 // The file of `object` with this size and count of blocks grown to a larger size: 9 to 16, or 0 and the store as the rules leave it.
 fn grow_to(
@@ -28,7 +28,6 @@ fn grow_to(
     ensures grown { numbered result (store_of store.new) ≡ grown (store_of store.old) object old_size allocated size seconds nanoseconds }
 {
     let mut units = [0u64; 1];
-    let k = kept::units::grow_units(old_size, &mut units);
     let none = [0u8; 0];
     let change = Change {
         old_size,
@@ -36,6 +35,7 @@ fn grow_to(
         offset: 0,
         len: 0,
     };
+    let k = change.grow_units(&mut units);
     change::change_file(
         store,
         MOST_RUNS,

@@ -8,8 +8,8 @@ ghost use Rattle.write.specs.Call.{StoreReady, FileReady, Taken, TimeFits, answe
 
 use super::Done;
 use format::refusal::Refusal;
+use kept::Change;
 use lent::Store;
-use rewrite::Change;
 
 // Units of a write at most: those that the most bytes touch, and the old tail unit before them.
 const MOST_UNITS: usize = 18;
@@ -34,13 +34,13 @@ fn write_taken(
     let len = bytes.len();
     let new_size = size.max(offset + len as u64);
     let mut units = [0u64; MOST_UNITS];
-    let k = kept::units::write_units(size, new_size, offset, len, &mut units);
     let change = Change {
         old_size: size,
         new_size,
         offset,
         len,
     };
+    let k = change.write_units(&mut units);
     change::change_file(
         store,
         limit,

@@ -11,7 +11,7 @@ use Rattle.finish_units.proofs.assemble_unit.Goals as goal
 pub assemble-requires : goal.assemble-requires
 assemble-requires c =
     let pre = c.requires in
-    let held = held_fits _ _ _ _ pre.change_fits _ _ _ c.held_bytes-held.ensures in
+    let held = held_fits _ _ _ _ c.args.change.fits _ _ _ c.held_bytes-held.ensures in
     record { buffer_len = pre.buffer_len; len = pre.len; held_le_valid = omega (arith, held, c.valid_length-valid.ensures.0); valid_le_unit_bytes = c.valid_length-valid.ensures.1; written_bound = omega arith; inside = pre.inside }
 
 pub returns-then-not-touches : goal.returns-then-not-touches
@@ -22,13 +22,13 @@ returns-then-not-touches c =
 pub written_part-p-requires : goal.written_part-p-requires
 written_part-p-requires c =
     let pre = c.requires in
-    record { len_bound = (omega (arith, pre.change_fits.inside, pre.change_fits.size), omega (arith, pre.unit_bytes_bound, pre.change_fits.size)); unit_bytes_value = sym c.touches.ensures.value ∙ not-false _ (ap not c.if-not-touches.false) }
+    record { len_bound = omega (arith, pre.unit_bytes_bound, c.args.change.fits.size); unit_bytes_value = sym c.touches.ensures.value ∙ not-false _ (ap not c.if-not-touches.false) }
 
 pub assemble-requires-2 : goal.assemble-requires-2
 assemble-requires-2 c =
     let pre = c.requires in
-    let held = held_fits _ _ _ _ pre.change_fits _ _ _ c.held_bytes-held.ensures in
-    let fits = part-within _ _ _ _ pre.change_fits _ _ _ c.touches.ensures.value_2 (ap not c.if-not-touches.false) c.written_part-p.ensures.placed in record { buffer_len = pre.buffer_len; len = pre.len; held_le_valid = omega (arith, held, c.valid_length-valid.ensures.0); valid_le_unit_bytes = c.valid_length-valid.ensures.1; written_bound = rw (length-take, length-drop) (omega (arith, fits, c.valid_length-valid.ensures.0)); inside = pre.inside }
+    let held = held_fits _ _ _ _ c.args.change.fits _ _ _ c.held_bytes-held.ensures in
+    let fits = part-within _ _ _ _ c.args.change.fits _ _ _ c.touches.ensures.value_2 (ap not c.if-not-touches.false) c.written_part-p.ensures.placed in record { buffer_len = pre.buffer_len; len = pre.len; held_le_valid = omega (arith, held, c.valid_length-valid.ensures.0); valid_le_unit_bytes = c.valid_length-valid.ensures.1; written_bound = rw (length-take, length-drop) (omega (arith, fits, c.valid_length-valid.ensures.0)); inside = pre.inside }
 
 pub returns : goal.returns
 returns c =

@@ -11,12 +11,12 @@ overflow_sub-result c = omega (arith, covers-means _ _ _ _ _ c.requires.covered_
 pub returns-then-covered : goal.returns-then-covered
 returns-then-covered c =
     let covers = covers-means _ _ _ _ _ c.requires.covered_value c.if-covered.true in
-    record { value = λ e. (refl, omega (arith, covers.0, covers.1)); buffer_after = λ e. absurd (clash e c.if-covered.true) }
+    record { value = λ e. (refl, omega (arith, c.requires.written, covers.0, covers.1)); buffer_after = λ e. absurd (clash e c.if-covered.true) }
 
 pub assemble_unit-requires : goal.assemble_unit-requires
 assemble_unit-requires c =
     let pre = c.requires in
-    record { change_fits = pre.change_fits; unit_bytes_bound = pre.unit_bytes_bound; buffer_len = pre.buffer_len; len = pre.len; inside = pre.inside }
+    record { written = pre.written; unit_bytes_bound = pre.unit_bytes_bound; buffer_len = pre.buffer_len; len = pre.len; inside = pre.inside }
 
 pub returns : goal.returns
 returns c = record { value = λ e. absurd (clash c.if-covered.false e); buffer_after = λ e. c.assemble_unit.ensures }

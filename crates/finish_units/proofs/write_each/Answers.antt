@@ -10,7 +10,7 @@ pub write_at-requires : goal.write_at-requires
 write_at-requires c =
     let pre = c.requires in
     let inv = c.loop-j.invariant in
-    record { tables = pre.tables; change_fits = pre.change_fits; buffer_len = omega (arith, inv.1, pre.buffer_len); units_fit = fit_same _ _ _ _ _ _ _ _ inv.0.long pre.units_fit; j_in_bounds = omega (arith, c.loop-j-test.true) }
+    record { tables = pre.tables; written = pre.written; buffer_len = omega (arith, inv.1, pre.buffer_len); units_fit = fit_same _ _ _ _ _ _ _ _ inv.0.long pre.units_fit; j_in_bounds = omega (arith, c.loop-j-test.true) }
 
 pub offset_bounds-crcs-j : goal.offset_bounds-crcs-j
 offset_bounds-crcs-j c = omega (arith, c.requires.units_fit.few, c.loop-j-test.true)
@@ -18,14 +18,11 @@ offset_bounds-crcs-j c = omega (arith, c.requires.units_fit.few, c.loop-j-test.t
 pub bounds-crcs-j : goal.bounds-crcs-j
 bounds-crcs-j c = omega (arith, c.requires.units_in_bounds, c.loop-j-test.true, c.loop-j.invariant.0.wide)
 
-pub overflow_add-j : goal.overflow_add-j
-overflow_add-j c = omega (arith, c.requires.units_fit.few, c.loop-j-test.true)
-
 pub loop-j-preserved : goal.loop-j-preserved
 loop-j-preserved c =
     let pre = c.requires in
     let inv = c.loop-j.invariant in
-    (writing_more _ _ _ _ _ _ _ _ _ _ _ _ _ _ _ _ _ _ pre.units_fit inv.0 c.loop-j-test.true pre.units_in_bounds c.write_at.auto.image c.write_at.ensures, c.write_at.auto.buffer ∙ inv.1)
+    (writing_more _ _ _ _ _ _ _ _ _ _ _ _ _ _ _ _ _ _ pre.units_fit inv.0 c.loop-j-test.true pre.units_in_bounds c.write_at.auto.image (λ ch is d. c.write_at.ensures ch (rw (← pre.written) at is) d), c.write_at.auto.buffer ∙ inv.1)
 
 pub returns : goal.returns
-returns c = writing-all _ _ _ _ _ _ _ _ _ _ _ _ _ _ _ _ c.loop-j.invariant.0 c.loop-j-test.false
+returns c = writing-all _ _ _ _ _ _ _ _ _ _ _ _ _ _ _ _ c.loop-j.invariant.0 (omega arith)

@@ -8,9 +8,6 @@ use Rattle.rewrite.proofs.lay_out.Goals as goal
 pub returns-then-not-g : goal.returns-then-not-g
 returns-then-not-g c = record { rewritten_value = (c.refused.ensures.1, omega (arith, c.refused.ensures.2, c.requires.unit_bytes_bound.1)); lays = (λ k used taken h f. lays-full _ used taken _ _ _ k _ _ _ _ _ _ _ _ _ (c.retained_blocks-n.ensures.retained k h) (c.give_blocks-g.ensures.by_index used taken f) c.if-not-g.true c.refused.ensures.0) }
 
-pub count_superseded-gone-requires : goal.count_superseded-gone-requires
-count_superseded-gone-requires c = (c.requires.len.0, omega (arith, c.retained_blocks-n.auto, c.requires.len.1, c.retained_blocks-n.ensures.from_old.few))
-
 pub returns-then-allocated-gone : goal.returns-then-allocated-gone
 returns-then-allocated-gone c = record { rewritten_value = (c.refused-then-allocated-gone.ensures.1, omega (arith, c.refused-then-allocated-gone.ensures.2, c.requires.unit_bytes_bound.1)); lays = (λ k used taken h f. lays-fewer _ used taken _ _ _ k _ _ _ _ _ _ _ _ _ (c.retained_blocks-n.ensures.retained k h) (c.give_blocks-g.ensures.by_index used taken f) c.if-not-g.false _ c.count_superseded-gone.ensures.0 (omega arith) c.refused-then-allocated-gone.ensures.0) }
 

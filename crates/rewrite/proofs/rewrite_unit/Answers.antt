@@ -7,7 +7,7 @@ use Rattle.rewrite.proofs.UnitLaws.{inside-device, carried-total, means-read, un
 use Rattle.rewrite.proofs.rewrite_unit.Goals as goal
 
 pub verify_old-requires : goal.verify_old-requires
-verify_old-requires c = record { tables = c.requires.tables; w_len = c.requires.w_len; change_fits = c.requires.change_fits; unit_bytes_bound = (c.requires.unit_bytes_bound.0, c.requires.unit_bytes_bound.1); len = (c.requires.len.0, inside-device _ _ _ _ c.requires.device_fits c.requires.blocks_of) }
+verify_old-requires c = record { tables = c.requires.tables; w_len = c.requires.w_len; unit_bytes_bound = (c.requires.unit_bytes_bound.0, c.requires.unit_bytes_bound.1); len = (c.requires.len.0, inside-device _ _ _ _ c.requires.device_fits c.requires.blocks_of) }
 
 pub returns-in-Refused : goal.returns-in-Refused
 returns-in-Refused c = record { allocated_le_most_allocated = omega (arith, c.refused.ensures.2, c.requires.unit_bytes_bound.2); unit_planned = λ v k p d l h. unit-refused _ v k _ p _ _ _ _ _ (means-read _ _ _ _ _ _ _ _ v k d l _ p _ (sym c.in-Refused.is ∙ c.verify_old.ensures k d.change)) c.refused.ensures.0 }

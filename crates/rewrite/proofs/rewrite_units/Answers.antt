@@ -7,7 +7,7 @@ pub loop-i-init : goal.loop-i-init
 loop-i-init c = walk_none _ _ _ _ _ _ _ _ _ _ _ _ _ _ _ _ c.requires.w_len c.requires.allocated_le_most_allocated refl refl c.no_cursors-cursors.ensures
 
 pub rewrite_at-r-requires : goal.rewrite_at-r-requires
-rewrite_at-r-requires c = record { tables = c.requires.tables; w_len = c.loop-i.invariant.window; device_fits = walk-device _ _ _ _ _ _ _ _ _ _ _ _ _ _ _ _ _ _ _ _ _ c.loop-i.invariant c.requires.device_fits; change_fits = c.requires.change_fits; arrays_fit = walk-arrays _ _ _ _ _ _ _ _ _ _ _ _ _ _ _ _ _ _ _ _ _ c.loop-i.invariant _ c.requires.arrays_fit; i_in_bounds = (omega arith, c.loop-i.invariant.count) }
+rewrite_at-r-requires c = record { tables = c.requires.tables; w_len = c.loop-i.invariant.window; device_fits = walk-device _ _ _ _ _ _ _ _ _ _ _ _ _ _ _ _ _ _ _ _ _ c.loop-i.invariant c.requires.device_fits; arrays_fit = walk-arrays _ _ _ _ _ _ _ _ _ _ _ _ _ _ _ _ _ _ _ _ _ c.loop-i.invariant _ c.requires.arrays_fit; i_in_bounds = (omega arith, c.loop-i.invariant.count) }
 
 pub shape_of-w-then-r-ne0 : goal.shape_of-w-then-r-ne0
 shape_of-w-then-r-ne0 c = omega (arith, c.rewrite_at-r.auto, c.loop-i.invariant.window, c.requires.w_len)

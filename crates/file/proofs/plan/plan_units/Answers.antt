@@ -11,7 +11,7 @@ slice_bounds-rewrite_units-end-2 c = sym (ap length (map-copied _ c.args.used.no
 pub rewrite_units-requires : goal.rewrite_units-requires
 rewrite_units-requires c =
     let p = c.requires in
-    record { tables = c.tables-t.ensures; w_len = refl; device_fits = device-copied _ _ _ _ (map-copied _ _ _ c.copy_part.ensures) p.device_fits; change_fits = p.change_fits; arrays_fit = p.arrays_fit; allocated_le_most_allocated = p.allocated_le_most_allocated }
+    record { tables = c.tables-t.ensures; w_len = refl; device_fits = device-copied _ _ _ _ (map-copied _ _ _ c.copy_part.ensures) p.device_fits; arrays_fit = p.arrays_fit; allocated_le_most_allocated = p.allocated_le_most_allocated }
 
 pub returns : goal.returns
 returns c =

@@ -1,12 +1,11 @@
-use Rattle.kept.proofs.BlocksLaws.{wanting-none, wanting-more, wanting-all}
-use borrow.Author.Rules.{rules}
+-- `kept::blocks::wanted` meets its contract. Assumes nothing.
+use Rattle.std.proofs.Common.{◌≡◌, sym, ◌∙◌, rules, ◌==◌}
+use Rattle.std.specs.List.{count_by}
+use Rattle.std.proofs.lemmas.List.Sums.{count_by-le-length}
+use Rattle.kept.proofs.BlocksLaws.{wanted-zeros}
 use Rattle.kept.proofs.blocks.wanted.Goals as goal
 
-pub loop-i-init : goal.loop-i-init
-loop-i-init c = search (wanting-none, rules)
-
-pub loop-i-preserved : goal.loop-i-preserved
-loop-i-preserved c = search (wanting-more, rules)
-
 pub returns : goal.returns
-returns c = wanting-all _ _ _ _ c.loop-i.invariant c.loop-i-test.false
+returns c =
+    let zeros : c.count.result ≡ count_by (λ e. e == 0) c.args.kept.now = search rules in
+    (zeros ∙ sym (wanted-zeros _), rw zeros (count_by-le-length _ _))

@@ -1,13 +1,9 @@
 -- `kept::kept::continues` meets its contract. Each return is one case of the definition. Assumes nothing.
-use Rattle.kept.proofs.RunLaws.{continues-none, continues-ends, continues-both}
-use borrow.Author.Rules.{rules}
+use Rattle.kept.proofs.RunLaws.{continues-none, continues-some}
 use Rattle.kept.proofs.kept.continues.Goals as goal
 
-pub returns-then-a-eq0 : goal.returns-then-a-eq0
-returns-then-a-eq0 c = search (continues-none, rules)
+pub returns-in-None : goal.returns-in-None
+returns-in-None c = continues-none _ _ _ _ c.in-None.ensures c.block_of-in-None.ensures c.is_none.ensures
 
-pub returns-then-b-eq0 : goal.returns-then-b-eq0
-returns-then-b-eq0 c = search (continues-ends, rules)
-
-pub returns : goal.returns
-returns c = search (continues-both, rules)
+pub returns-in-Some : goal.returns-in-Some
+returns-in-Some c = continues-some _ _ _ _ _ c.in-Some.ensures c.block_of-in-Some.ensures c.eq.ensures

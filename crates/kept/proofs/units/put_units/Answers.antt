@@ -1,12 +1,13 @@
+use mathlib.Core.Path.{refl}
+use native.Mathlib.Omega.{arith}
 use Rattle.kept.proofs.UnitsLaws.{putting-none, putting-more, putting-all}
-use borrow.Author.Rules.{rules}
 use Rattle.kept.proofs.units.put_units.Goals as goal
 
-pub loop-u-init : goal.loop-u-init
-loop-u-init c = search (putting-none, rules)
+pub loop-unit-init : goal.loop-unit-init
+loop-unit-init c = putting-none _ _
 
-pub loop-u-preserved : goal.loop-u-preserved
-loop-u-preserved c = search (putting-more, rules)
+pub loop-unit-preserved : goal.loop-unit-preserved
+loop-unit-preserved c = putting-more _ _ _ c.loop-unit.invariant (omega arith) (omega arith)
 
 pub returns : goal.returns
-returns c = putting-all _ _ _ _ _ _ _ c.loop-u.invariant c.loop-u-test.false
+returns c = (refl, putting-all _ _ _ _ c.loop-unit.invariant (omega arith))

@@ -1,7 +1,0 @@
--- `kept::tests::touches` meets its contract. Assumes nothing.
-use mathlib.Core.Path.{sym, ◌∙◌}
-use Rattle.kept.proofs.ChangeLaws.{touches-is}
-use Rattle.kept.proofs.tests.touches.Goals as goal
-
-pub returns : goal.returns
-returns c = record { value = c.written_in.ensures; value_2 = λ ch before after is. c.written_in.ensures ∙ sym (touches-is ch _ _ _ _ is _) }
