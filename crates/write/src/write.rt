@@ -12,16 +12,6 @@ use rewrite::Change;
 // Units of a write at most: those that the most bytes touch, and the old tail unit before them.
 const MOST_UNITS: usize = 18;
 
-// The larger of two numbers.
-fn larger(a: u64, b: u64) -> u64
-    ensures { result ≡ max a b }
-{
-    if a < b {
-        return b;
-    }
-    a
-}
-
 // A write of bytes that are all taken, to the file of `object` with this size and count of blocks: 9 to 16, or 0 and the store as the rules leave it.
 fn write_taken(
     image: &mut [u8],
@@ -45,7 +35,7 @@ fn write_taken(
     ensures { numbered result (lent image.new head.new cards.new extents.new groups.new used.new retired.new) ≡ written limit (lent image.old head.old cards.old extents.old groups.old used.old retired.old) object size allocated offset bytes.now seconds nanoseconds }
 {
     let len = bytes.len();
-    let new_size = larger(size, offset + len as u64);
+    let new_size = size.max(offset + len as u64);
     let mut units = [0u64; MOST_UNITS];
     let k = kept::units::write_units(size, new_size, offset, len, &mut units);
     let change = Change {
@@ -101,9 +91,11 @@ fn write_sized(
         };
     }
     let len = file::tests::taken(bytes.len());
-    let number = file::tests::write_refused(offset, len, seconds, nanoseconds);
-    if number != 0 {
-        return Done { number, count: 0 };
+    if let Err(r) = file::tests::write_refused(offset, len, seconds, nanoseconds) {
+        return Done {
+            number: r.number(),
+            count: 0,
+        };
     }
     let number = write_taken(
         image,
