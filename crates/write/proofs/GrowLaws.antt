@@ -120,7 +120,7 @@ module _ (s : Store) (w : StoreReady s) (object size seconds nanoseconds : ℕ) 
         → (is_past_limit size ≡ false → ltb size old ≡ false → eqb size old ≡ true → P 0)
         → (is_past_limit size ≡ false → ltb size old ≡ false → eqb size old ≡ false → time_wrong time ≡ true → P 7)
         → (is_past_limit size ≡ false → ltb size old ≡ false → eqb size old ≡ false → time_wrong time ≡ false → P 0) → P n
-    unfolding grow_number
+    unfolding grow_number number_of
     by_number P a b c d g =
         test-cases (P n) (is_past_limit size)
         (λ p. rw (e ∙ if-true {A = ℕ} (is_past_limit size) 5 _ p) (a p))

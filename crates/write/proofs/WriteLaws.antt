@@ -111,7 +111,7 @@ module _ (s : Store) (object size allocated : ℕ) (f : FileReady s object size 
     -- what holds with 5 and 7 and where neither comes holds of the number
     by_number : (P : ℕ → Type 0) → (is_past_limit (offset + len) ≡ true → P 5) → (is_past_limit (offset + len) ≡ false → time_wrong time ≡ true → P 7)
         → (is_past_limit (offset + len) ≡ false → time_wrong time ≡ false → P 0) → P n
-    unfolding write_number
+    unfolding write_number number_of
     by_number P a b c =
         test-cases (P n) (is_past_limit (offset + len))
         (λ p. rw (e ∙ if-true {A = ℕ} (is_past_limit (offset + len)) 5 _ p) (a p))

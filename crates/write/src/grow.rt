@@ -65,9 +65,8 @@ pub fn grow_file(
         return Refusal::NoCard.number();
     };
     let old_size = file.size;
-    let number = file::tests::grow_refused(old_size, size, seconds, nanoseconds);
-    if number != 0 {
-        return number;
+    if let Err(r) = file::tests::grow_refused(old_size, size, seconds, nanoseconds) {
+        return r.number();
     }
     if size == old_size {
         return 0;

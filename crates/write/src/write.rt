@@ -77,9 +77,11 @@ fn write_sized(
         };
     }
     let len = file::tests::taken(bytes.len());
-    let number = file::tests::write_refused(offset, len, seconds, nanoseconds);
-    if number != 0 {
-        return Done { number, count: 0 };
+    if let Err(r) = file::tests::write_refused(offset, len, seconds, nanoseconds) {
+        return Done {
+            number: r.number(),
+            count: 0,
+        };
     }
     let number = write_taken(
         store,

@@ -5,14 +5,14 @@ use Rattle.write.proofs.FindLaws.{find-ready}
 use Rattle.write.proofs.WriteLaws.{file-missing, file-ready}
 use Rattle.write.proofs.write.write_file.Goals as goal
 
-pub find_file-file-requires : goal.find_file-file-requires
-find_file-file-requires c = find-ready _ c.requires
+pub find_file-requires : goal.find_file-requires
+find_file-requires c = find-ready _ c.requires
 
-pub returns-then-not-file-clause-written : goal.returns-then-not-file-clause-written
-returns-then-not-file-clause-written c = file-missing _ c.requires _ _ _ _ c.find_file-file.ensures _ _ _ _ _ (not-true _ c.if-not-file.true)
+pub returns-in_default-clause-written : goal.returns-in_default-clause-written
+returns-in_default-clause-written c = file-missing _ c.requires _ c.in_default.ensures _ _ _ _ _
 
 pub write_sized-requires : goal.write_sized-requires
-write_sized-requires c = file-ready _ c.requires _ _ _ _ c.find_file-file.ensures (not-false _ c.if-not-file.false)
+write_sized-requires c = file-ready _ c.requires _ _ c.in-Some.ensures
 
 pub returns-clause-written : goal.returns-clause-written
 returns-clause-written c = c.write_sized.ensures.written
