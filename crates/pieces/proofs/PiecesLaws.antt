@@ -27,24 +27,6 @@ use Rattle.triples.proofs.TripleLaws.{from_start, from_end, read_here, read-leng
 use Rattle.pieces.specs.InHand.{most_units, InHand, starts_with}
 use Rattle.pieces.specs.Pieces.{unit_bytes_of, piece_of, pieces_of}
 
--- ---- the test of the stretch in hand
-
-module _ (held start have object first k : ℕ) where
-  -- another file
-  pub other-object : (held ≡ object → ⊥) → false ≡ starts_with held start have object first k
-  unfolding starts_with
-  other-object z = rw (ne_eqb held object z) refl
-
-  -- another unit
-  pub other-first : held ≡ object → (start ≡ first → ⊥) → false ≡ starts_with held start have object first k
-  unfolding starts_with
-  other-first o z = rw (eq-eqb held object o, ne_eqb start first z) refl
-
-  -- the same, and as many units or not
-  pub same_first : held ≡ object → start ≡ first → leb k have ≡ starts_with held start have object first k
-  unfolding starts_with
-  same_first o f = rw (eq-eqb held object o, eq-eqb start first f) refl
-
 -- ---- the blocks in hand
 
 -- there is room for the blocks of a read's units

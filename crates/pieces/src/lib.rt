@@ -11,10 +11,8 @@ ghost use Rattle.pieces.specs.InHand.{most_units, InHand, starts_with};
 ghost use Rattle.pieces.specs.Pieces.{piece_of, pieces_of};
 
 use format::sizes::{UNIT_BLOCKS, UNIT_BYTES};
+use read::MOST_BLOCKS;
 use triples::TRIPLE_BYTES;
-
-// Blocks of the units that a read touches at most.
-const MOST_BLOCKS: usize = 272;
 
 // The units of the file of `object` from `first` on whose blocks are in hand; 0 units: none.
 #[derive(Clone, Copy)]
@@ -25,16 +23,11 @@ struct Stretch {
 }
 
 // Whether the `k` units of the file of `object` from `first` on are the front of the stretch in hand.
+#[tactic(auto, unfolding(crate::specs::InHand::starts_with))]
 fn starts_with(last: Stretch, object: u64, first: u64, k: usize) -> bool
     ensures { result ≡ starts_with last.object last.first last.units object first k }
 {
-    if last.object != object {
-        return false;
-    }
-    if last.first != first {
-        return false;
-    }
-    k <= last.units
+    last.object == object && last.first == first && k <= last.units
 }
 
 // The blocks of `k` units of the file of `object` from `first` on, at the front of `blocks`; looked up only where they are not in hand.
@@ -126,15 +119,13 @@ fn hand_out_each(
     requires blocks_len { length blocks.old ≡ most_units * unit_blocks }
     ensures { out.new ≡ pieces_of image.now extents.now e (decode_triples list.now) sizes.now out.old }
 {
-    let n = list.len() / TRIPLE_BYTES;
     let mut last = Stretch {
         object: 0,
         first: 0,
         units: 0,
     };
     let mut at: usize = 0;
-    let mut i: usize = 0;
-    while i < n {
+    for i in 0..list.len() / TRIPLE_BYTES {
         let t = triples::triple_at(list, i);
         let end = at + t.len as usize;
         last = hand_out_piece(
@@ -149,7 +140,6 @@ fn hand_out_each(
             &mut out[at..end],
         );
         at = end;
-        i += 1;
     }
 }
 

@@ -29,7 +29,7 @@ const MOST_TRANSFER: u64 = 1048576;
 const MOST_UNITS: usize = 17;
 
 // Blocks of so many units.
-const MOST_BLOCKS: usize = MOST_UNITS * UNIT_BLOCKS;
+pub const MOST_BLOCKS: usize = MOST_UNITS * UNIT_BLOCKS;
 
 // How many bytes a read gets of a file of this size.
 pub fn read_length(size: u64, offset: u64, room: usize) -> usize

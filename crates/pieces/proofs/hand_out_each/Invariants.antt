@@ -1,16 +1,9 @@
 -- `pieces::hand_out_each` meets its contract. The loop keeps: the pieces so far have their bytes, and the blocks of the last stretch are in hand.
 -- Assumes nothing.
-use mathlib.Core.Path.{◌≡◌}
-use Prim.Native.Nat.{◌-◌, ◌*◌, ◌≤◌}
-use lib.ListN.{length}
-use Rattle.rules.specs.Sizes.{unit_blocks}
-use Rattle.pieces.specs.InHand.{most_units, InHand}
+use Rattle.pieces.specs.InHand.{InHand}
 use Rattle.pieces.proofs.PiecesLaws.{Handed}
 use Rattle.pieces.proofs.hand_out_each.Given as goal
 
 abbrev pub invariant-loop-i : goal.invariant-loop-i
 invariant-loop-i l =
-    (l.i ≤ l.n) × (length l.blocks ≡ most_units * unit_blocks) × InHand l.extents l.e l.last.object l.last.first l.last.units l.blocks × Handed l.image l.extents l.e l.list l.sizes l.initial.out l.i l.at l.out
-
-abbrev pub decreases-loop-i : goal.decreases-loop-i
-decreases-loop-i l = l.n - l.i
+    InHand l.extents l.e l.last.object l.last.first l.last.units l.blocks × Handed l.image l.extents l.e l.list l.sizes l.initial.out l.i l.at l.out
