@@ -14,12 +14,13 @@ ghost use Rattle.mapping.specs.Entries.{extents_in, ExtentsRight};
 ghost use Rattle.finish_books.specs.Groups.{groups_in, UnitsRight};
 ghost use Rattle.finish_extents.specs.Stretch.{Planned};
 ghost use Rattle.file.specs.Change.{numbered};
-ghost use Rattle.finish_fit.specs.Fits.{Fits};
+ghost use Rattle.finish_fit.specs.Fits.{FitAnswer};
 ghost use Rattle.file.specs.Flat.{flat_blocks};
 ghost use Rattle.carry.specs.Carry.{CarryReady, CarryFor};
 
 use finish_extents::Exchange;
 use finish_fit::Fit;
+use format::refusal::Refusal;
 use format::sizes::{BLOCK_BYTES, UNIT_BLOCKS};
 use kept::Change;
 
@@ -47,22 +48,22 @@ fn fit_change(
     units: &[u64],
     blocks: &[u32],
     made: &mut [u8],
-) -> Fit
+) -> Result<Fit, Refusal>
     requires extents_right { ExtentsRight most_blocks e extents.now × (0 < length units.now → Planned object units.now blocks.now (extents_in e extents.now)) }
     requires g_in_bounds { (group_bytes * g ≤ length groups.now) × UnitsRight object (groups_in g groups.now) units.now }
     requires extent_bytes_in_bounds { extent_bytes * 290 ≤ length made.old }
-    ensures { Fits object units.now blocks.now g groups.now e extents.now result.number result.groups result.exchange.place result.exchange.cut result.exchange.count made.new }
+    ensures { FitAnswer object units.now blocks.now g groups.now e extents.now result made.new }
 {
     if units.len() == 0 {
-        return Fit {
-            number: 0,
-            groups: g,
-            exchange: Exchange {
-                place: 0,
-                cut: 0,
-                count: 0,
-            },
+        let exchange = Exchange {
+            place: 0,
+            cut: 0,
+            count: 0,
         };
+        return Ok(Fit {
+            groups: g,
+            exchange,
+        });
     }
     finish_fit::fit_books(extents, e, groups, g, object, units, blocks, made)
 }
@@ -100,10 +101,10 @@ pub fn carry_change(
     ensures { (limit : ℕ) (c : rules.Change) (p : rewriting.Progress) (k : rewriting.Plan) → CarryFor limit (lent image.old head.old cards.old extents.old groups.old used.old retired.old) c p k uuid.now object change bytes.now allocated hint units.now slots.now old.now kept.now blocks.now → numbered result (lent image.new head.new cards.new extents.new groups.new used.new retired.new) ≡ result_of (lent image.old head.old cards.old extents.old groups.old used.old retired.old) [] (carried_out 0 c (record { seconds = seconds; nanoseconds = nanoseconds }) (lent image.old head.old cards.old extents.old groups.old used.old retired.old) k) }
 {
     let flat = flat_blocks(change.new_size, units);
-    let fit = fit_change(extents, m, groups, g, object, units, &blocks[..flat], made);
-    if fit.number != 0 {
-        return fit.number;
-    }
+    let fit = match fit_change(extents, m, groups, g, object, units, &blocks[..flat], made) {
+        Ok(fit) => fit,
+        Err(r) => return r.number(),
+    };
     file::carry_out::carry_out(
         image,
         head,
