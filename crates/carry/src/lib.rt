@@ -14,12 +14,13 @@ ghost use Rattle.mapping.specs.Entries.{extents_in, ExtentsRight};
 ghost use Rattle.finish_books.specs.Groups.{groups_in, UnitsRight};
 ghost use Rattle.finish_extents.specs.Stretch.{Planned};
 ghost use Rattle.file.specs.Change.{numbered};
-ghost use Rattle.finish_fit.specs.Fits.{Fits};
+ghost use Rattle.finish_fit.specs.Fits.{FitAnswer};
 ghost use Rattle.file.specs.Flat.{flat_blocks};
 ghost use Rattle.carry.specs.Carry.{CarryReady, CarryFor};
 
 use finish_extents::Exchange;
 use finish_fit::Fit;
+use format::refusal::Refusal;
 use format::sizes::{BLOCK_BYTES, UNIT_BLOCKS};
 use kept::Change;
 use lent::Store;
@@ -47,22 +48,22 @@ fn fit_change(
     units: &[u64],
     blocks: &[u32],
     made: &mut [u8],
-) -> Fit
+) -> Result<Fit, Refusal>
     requires extents_right { ExtentsRight most_blocks e store.now.extents.now × (0 < length units.now → Planned object units.now blocks.now (extents_in e store.now.extents.now)) }
     requires g_in_bounds { (group_bytes * g ≤ length store.now.groups.now) × UnitsRight object (groups_in g store.now.groups.now) units.now }
     requires extent_bytes_in_bounds { extent_bytes * 290 ≤ length made.old }
-    ensures { Fits object units.now blocks.now g store.now.groups.now e store.now.extents.now result.number result.groups result.exchange.place result.exchange.cut result.exchange.count made.new }
+    ensures { FitAnswer object units.now blocks.now g store.now.groups.now e store.now.extents.now result made.new }
 {
     if units.len() == 0 {
-        return Fit {
-            number: 0,
-            groups: g,
-            exchange: Exchange {
-                place: 0,
-                cut: 0,
-                count: 0,
-            },
+        let exchange = Exchange {
+            place: 0,
+            cut: 0,
+            count: 0,
         };
+        return Ok(Fit {
+            groups: g,
+            exchange,
+        });
     }
     finish_fit::fit_books(
         store.extents,
@@ -104,10 +105,10 @@ pub fn carry_change(
     ensures carried { (limit : ℕ) (c : rules.Change) (p : rewriting.Progress) (k : rewriting.Plan) → CarryFor limit (store_of store.old) c p k uuid.now object change bytes.now allocated hint units.now slots.now old.now kept.now blocks.now → numbered result (store_of store.new) ≡ result_of (store_of store.old) [] (carried_out 0 c (record { seconds = seconds; nanoseconds = nanoseconds }) (store_of store.old) k) }
 {
     let flat = flat_blocks(change.new_size, units);
-    let fit = fit_change(store, m, g, object, units, &blocks[..flat], made);
-    if fit.number != 0 {
-        return fit.number;
-    }
+    let fit = match fit_change(store, m, g, object, units, &blocks[..flat], made) {
+        Ok(fit) => fit,
+        Err(r) => return r.number(),
+    };
     file::carry_out::carry_out(
         store,
         n,

@@ -17,9 +17,6 @@ ghost use Rattle.finish_books.specs.Groups.{groups_in, group_right, GroupsRight,
 use checksum_group::{GROUP_BYTES, PRESENCE_AT, SLOT_BYTES, SLOTS_AT};
 use format::sizes::GROUP_UNITS;
 
-// Units of a group, as units are counted.
-const UNITS: u64 = GROUP_UNITS as u64;
-
 // Bytes of two groups.
 const TWO_GROUPS: usize = 2 * GROUP_BYTES;
 
@@ -105,18 +102,16 @@ fn set_slots(groups: &mut [u8], n: usize, object: u64, units: &[u64], crcs: &[u3
 {
     let mut number: u64 = 0;
     let mut place = n;
-    let mut i: usize = 0;
-    while i < units.len() {
-        let wanted = units[i] / UNITS;
+    for i in 0..units.len() {
+        let wanted = units[i] / GROUP_UNITS as u64;
         place = place_of(groups, n, object, wanted, number, place);
         number = wanted;
         put_slot(
             groups,
             GROUP_BYTES * place,
-            (units[i] % UNITS) as usize,
+            (units[i] % GROUP_UNITS as u64) as usize,
             crcs[i],
         );
-        i += 1;
     }
 }
 
@@ -193,7 +188,13 @@ fn missing_for(groups: &[u8], n: usize, object: u64, units: &[u64]) -> Missing
     }
     let s = stretch(units);
     let last = units.len() - 1;
-    missing_of(groups, n, object, units[s] / UNITS, units[last] / UNITS)
+    missing_of(
+        groups,
+        n,
+        object,
+        units[s] / GROUP_UNITS as u64,
+        units[last] / GROUP_UNITS as u64,
+    )
 }
 
 // How many groups a change will put in.

@@ -25,10 +25,8 @@ pub fn mark_used(used: &mut [u8], kept: &[u32], blocks: &[u32])
     requires new_inside { NewInside (8 * length used.old) kept.now blocks.now }
     ensures { (b : ℕ) → length used.old ≡ map_bytes b → used.new ≡ encode_map b (λ n. bit_set used.old n || member n (new_of kept.now blocks.now)) }
 {
-    let mut f: usize = 0;
-    while f < kept.len() {
+    for f in 0..kept.len() {
         mark_new(used, kept, blocks, f);
-        f += 1;
     }
 }
 
@@ -62,9 +60,7 @@ pub fn mark_retired(retired: &mut [u8], old: &[u32], kept: &[u32])
     requires { OldInside (8 * length retired.old) old.now }
     ensures { (b : ℕ) → length retired.old ≡ map_bytes b → retired.new ≡ encode_map b (λ n. bit_set retired.old n || member n (superseded (entries old.now) (entries kept.now))) }
 {
-    let mut f: usize = 0;
-    while f < old.len() {
+    for f in 0..old.len() {
         mark_gone(retired, old, kept, f);
-        f += 1;
     }
 }

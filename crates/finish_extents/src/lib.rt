@@ -63,16 +63,10 @@ fn exchange_from(i: usize, t: Closed) -> Exchange
     requires { i ≤ t.next }
     ensures { (result.place ≡ i - 1) × (result.place + result.cut ≡ t.next) × (result.count ≡ t.count) }
 {
-    if i == 0 {
-        return Exchange {
-            place: 0,
-            cut: t.next,
-            count: t.count,
-        };
-    }
+    let place = i.saturating_sub(1);
     Exchange {
-        place: i - 1,
-        cut: t.next - (i - 1),
+        place,
+        cut: t.next - place,
         count: t.count,
     }
 }

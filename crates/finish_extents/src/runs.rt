@@ -15,7 +15,7 @@ fn single(object: u64, unit: u64, offset: u64, block: u32) -> Extent
     ensures { extent_of result ≡ one_block object (unit * unit_blocks + offset) block }
 {
     Extent {
-        object: object,
+        object,
         logical: unit * UNIT_BLOCKS as u64 + offset,
         physical: block as u64,
         count: 1,
@@ -50,11 +50,8 @@ pub fn push_blocks(
     ensures { (result ≤ count + length blocks.now) × PushedAll count made.old (singles object units.now blocks.now (length blocks.now)) result made.new }
 {
     let mut n = count;
-    let mut f: usize = 0;
-    while f < blocks.len() {
-        let e = single_at(object, units, blocks, f);
-        n = push(made, n, e);
-        f += 1;
+    for f in 0..blocks.len() {
+        n = push(made, n, single_at(object, units, blocks, f));
     }
     n
 }

@@ -55,13 +55,13 @@ exchanges-of object us bs m book place cut count made l k f = record {
 
 -- there are too few places for them
 pub extents-full : (object : ℕ) (us bs : List ℕ) (m : ℕ) (book : List ℕ) (place cut count : ℕ) (made : List ℕ) → place + cut ≤ m → count ≤ 290
-    → Finished object us bs (extents_in m book) place (place + cut) count made → length book / 33 < m - cut + count → ExtentsFit object us bs m book 16 place cut count made
+    → Finished object us bs (extents_in m book) place (place + cut) count made → length book / 33 < m - cut + count → ExtentsFit object us bs m book 16 0 0 0 made
 unfolding book_places
 extents-full object us bs m book place cut count made l k f h =
     let x : Exchanges object us bs m book place cut count made = exchanges-of object us bs m book place cut count made l k f in
     record {
       decided = λ rs d. sym (extents-above (length book / 33) (length (finished_extents object rs (extents_in m book))) (rw (x.told rs d) at h));
-      exchanges = x;
+      exchanges = λ z. absurd (omega (arith, z));
     }
 
 -- there are enough
@@ -72,7 +72,7 @@ extents-fit object us bs m book place cut count made l k f h =
     let x : Exchanges object us bs m book place cut count made = exchanges-of object us bs m book place cut count made l k f in
     record {
       decided = λ rs d. sym (extents-below (length book / 33) (length (finished_extents object rs (extents_in m book))) (rw (x.told rs d) at h));
-      exchanges = x;
+      exchanges = λ z. x;
     }
 
 -- ---- both books
@@ -80,10 +80,10 @@ extents-fit object us bs m book place cut count made l k f h =
 module _ (object : ℕ) (us bs : List ℕ) (g : ℕ) (groups : List ℕ) (m : ℕ) (extents : List ℕ) (missing : ℕ)
     (h : (rs : List Rewritten) → map (λ r. r.unit) rs ≡ us → length (finished_groups object rs (groups_in g groups)) ≡ g + missing) where
   -- there are too few places for the groups
-  pub groups-full : (left place cut count : ℕ) (made : List ℕ) → 1073 * g ≤ length groups → length groups / 1073 - g < missing
-      → Fits object us bs g groups m extents 15 left place cut count made
+  pub groups-full : (made : List ℕ) → 1073 * g ≤ length groups → length groups / 1073 - g < missing
+      → Fits object us bs g groups m extents 15 0 0 0 0 made
   unfolding book_places
-  groups-full left place cut count made l q =
+  groups-full made l q =
       let a : length groups / 1073 < g + missing = omega arith in
       record {
         decided = λ rs d. sym (groups-above (length groups / 1073) (length (finished_groups object rs (groups_in g groups))) _ (rw (← h rs d.units) at a));
@@ -92,15 +92,15 @@ module _ (object : ℕ) (us bs : List ℕ) (g : ℕ) (groups : List ℕ) (m : �
       }
 
   -- there are enough, and the extents decide
-  pub books-fit : (number left place cut count : ℕ) (made : List ℕ) → 1073 * g ≤ length groups → missing ≤ length groups / 1073 - g → left ≡ g + missing
+  pub books-fit : (number left place cut count : ℕ) (made : List ℕ) → 1073 * g ≤ length groups → missing ≤ length groups / 1073 - g → (number ≡ 0 → left ≡ g + missing)
       → ExtentsFit object us bs m extents number place cut count made → Fits object us bs g groups m extents number left place cut count made
   unfolding book_places
   books-fit number left place cut count made l q e f =
       let a : g + missing ≤ length groups / 1073 = omega arith in
       record {
         decided = λ rs d. f.decided rs d ∙ sym (groups-below (length groups / 1073) (length (finished_groups object rs (groups_in g groups))) _ (rw (← h rs d.units) at a));
-        told = λ z rs d. e ∙ sym (h rs d.units);
-        exchanges = λ z. f.exchanges;
+        told = λ z rs d. e z ∙ sym (h rs d.units);
+        exchanges = λ z. f.exchanges z;
       }
 
 -- ---- for those who call

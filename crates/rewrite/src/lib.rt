@@ -367,8 +367,7 @@ pub fn rewrite_units(
         cursors,
     };
     let mut skip: usize = 0;
-    let mut i: usize = 0;
-    while i < units.len() {
+    for i in 0..units.len() {
         let r = rewrite_at(
             t, w, image, uuid, map, total, limit, object, change, units, slots, old, kept, blocks,
             i, progress,
@@ -383,7 +382,6 @@ pub fn rewrite_units(
         }
         skip = skipped(skip, r.rewritten);
         progress = r.progress;
-        i += 1;
     }
     Plan {
         number: 0,

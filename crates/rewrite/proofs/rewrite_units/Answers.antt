@@ -16,10 +16,7 @@ pub returns-then-r-ne0 : goal.returns-then-r-ne0
 returns-then-r-ne0 c = record { skip_in_bounds = (omega (arith, c.loop-i.invariant.few, c.loop-i.invariant.bound), c.requires.allocated_le_most_allocated); units_planned = walk_refused _ _ _ _ _ _ _ _ _ _ _ _ _ _ _ _ _ _ _ _ _ c.loop-i.invariant _ _ _ _ c.rewrite_at-r.ensures.unit_planned (omega arith) (omega arith) _ refl }
 
 pub skipped-skip-requires : goal.skipped-skip-requires
-skipped-skip-requires c = omega (arith, c.loop-i.invariant.few, c.well_formed.1.1.1.1.1.1.1.1.1.0)
-
-pub overflow_add-i : goal.overflow_add-i
-overflow_add-i c = omega (arith, c.well_formed.1.1.1.1.1.1.1.1.1.0)
+skipped-skip-requires c = omega (arith, c.loop-i.invariant.few)
 
 pub loop-i-preserved : goal.loop-i-preserved
 loop-i-preserved c = walk_more _ _ _ _ _ _ _ _ _ _ _ _ _ _ _ _ _ _ _ _ _ c.loop-i.invariant _ _ _ _ c.rewrite_at-r.ensures.unit_planned (omega arith) (omega arith) _ (omega (arith, c.rewrite_at-r.auto, c.loop-i.invariant.window)) (omega (arith, c.rewrite_at-r.auto)) c.rewrite_at-r.ensures.changed_at.0 c.rewrite_at-r.ensures.changed_at.1 (omega (arith, c.requires.arrays_fit.kept_each)) (omega (arith, c.requires.arrays_fit.blocks_each)) c.rewrite_at-r.ensures.allocated_le_most_allocated _ c.skipped-skip.ensures.0 c.skipped-skip.ensures.1 c.skipped-skip.ensures.2

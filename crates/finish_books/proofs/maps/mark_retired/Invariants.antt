@@ -1,7 +1,7 @@
 -- `finish_books::maps::mark_retired` meets its contract.
 -- Assumes nothing.
 use Rattle.finish_books.proofs.MapLaws.{Marked}
-use Prim.Native.Nat.{◌-◌, ◌≤◌}
+use Prim.Native.Nat.{◌≤◌}
 use lib.ListN.{length, take}
 use Rattle.rules.specs.Kept.{superseded}
 use Rattle.mapping.specs.Entries.{entries}
@@ -10,6 +10,3 @@ use Rattle.finish_books.proofs.maps.mark_retired.Given as goal
 abbrev pub invariant-loop-f : goal.invariant-loop-f
 invariant-loop-f l =
     (l.f ≤ length l.old) × Marked l.initial.retired (superseded (entries (take l.f l.old)) (entries l.kept)) l.retired
-
-abbrev pub decreases-loop-f : goal.decreases-loop-f
-decreases-loop-f l = length l.old - l.f

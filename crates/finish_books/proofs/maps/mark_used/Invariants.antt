@@ -1,7 +1,7 @@
 -- `finish_books::maps::mark_used` meets its contract.
 -- Assumes nothing.
 use Rattle.finish_books.proofs.MapLaws.{Marked}
-use Prim.Native.Nat.{◌-◌, ◌≤◌}
+use Prim.Native.Nat.{◌≤◌}
 use lib.ListN.{length, take}
 use Rattle.finish_books.specs.Buffers.{new_of}
 use Rattle.finish_books.proofs.maps.mark_used.Given as goal
@@ -9,6 +9,3 @@ use Rattle.finish_books.proofs.maps.mark_used.Given as goal
 abbrev pub invariant-loop-f : goal.invariant-loop-f
 invariant-loop-f l =
     (l.f ≤ length l.kept) × Marked l.initial.used (new_of (take l.f l.kept) (take l.f l.blocks)) l.used
-
-abbrev pub decreases-loop-f : goal.decreases-loop-f
-decreases-loop-f l = length l.kept - l.f
