@@ -1,13 +1,13 @@
 -- Laws of a batch's tests: its list, and the extents that are looked at.
 -- Assumes nothing.
-use mathlib.Core.Path.{◌≡◌, refl, sym, ap, subst}
+use mathlib.Core.Path.{◌≡◌, sym, ap, subst}
 use mathlib.Core.Logic.{inl, inr}
 use mathlib.Core.Bool.{Bool, true, false, not, ◌||◌, false≢true}
 use mathlib.Core.List.{List}
 use Prim.Native.Nat.{ℕ, ◌+◌, ◌*◌, ◌/◌, ◌%◌, ◌≤◌}
 use lib.Dec.{eqb, leb, ltb}
 use lib.ListN.{length}
-use borrow.Author.Tests.{eqb-true, ltb-false, not-false}
+use borrow.Author.Tests.{le-leb, eqb-true, ltb-false, not-false}
 use Rattle.rules.specs.Sizes.{most_blocks}
 use Rattle.rules.specs.Lists.{all}
 use Rattle.rules.specs.Head.{Head, decode_head}
@@ -24,22 +24,6 @@ use Rattle.batch_tests.specs.Tests.{extents_counted, ExtentsPlaced, TellsAgain}
 -- ---- the list
 
 module _ (list bytes : List ℕ) where
-  -- not whole triples, or too many
-  pub wrong-list : (m : Bool) → m ≡ list_wrong list → m ≡ true → true ≡ batch_wrong list bytes
-  unfolding batch_wrong
-  wrong-list m e t = rw (← e, t) refl
-
-  -- a length too long
-  pub wrong_length : (m k : Bool) → m ≡ list_wrong list → m ≡ false → k ≡ length_over (decode_triples list) → k ≡ true → true ≡ batch_wrong list bytes
-  unfolding batch_wrong
-  wrong_length m k e t f u = rw (← e, t, ← f, u) refl
-
-  -- the lengths together
-  pub wrong-sum : (m k r : Bool) → m ≡ list_wrong list → m ≡ false → k ≡ length_over (decode_triples list) → k ≡ false
-      → r ≡ not (eqb (lengths_of (decode_triples list)) (length bytes)) → r ≡ batch_wrong list bytes
-  unfolding batch_wrong
-  wrong-sum m k r e t f u g = rw (← e, t, ← f, u) g
-
   -- so the lengths add up to the bytes where the list is right
   pub lengths-add : batch_wrong list bytes ≡ false → lengths_of (decode_triples list) ≡ length bytes
   unfolding batch_wrong
@@ -77,5 +61,5 @@ module _ (head extents : List ℕ) where
       record { left_out = k.apart; made = λ t. inr (k.together t) }
 
 -- a list with no second write
-pub single-again : (list : List ℕ) (es : List Extent) → length list ≤ triple_bytes → TellsAgain true list es
-single-again list es l = record { left_out = λ e. absurd (false≢true (sym e)); made = λ e. inl l }
+pub single-again : (list : List ℕ) (es : List Extent) → length list ≤ triple_bytes → TellsAgain (leb (length list) triple_bytes) list es
+single-again list es l = rw (le-leb (length list) triple_bytes l) (record { left_out = λ e. absurd (false≢true (sym e)); made = λ e. inl l })

@@ -6,15 +6,3 @@
 pub mod out;
 pub mod put;
 pub mod unit;
-
-ghost use Rattle.std.specs.Prelude.{◌≡◌, min};
-
-// The lesser of two numbers.
-fn least(a: usize, b: usize) -> usize
-    ensures { result ≡ min a b }
-{
-    if a < b {
-        return a;
-    }
-    b
-}

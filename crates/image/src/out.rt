@@ -36,7 +36,7 @@ pub fn hand_out(image: &[u8], blocks: &[u32], at: usize, n: usize, out: &mut [u8
     let mut d: usize = 0;
     while d < n {
         let place = (start + d) % BLOCK_BYTES;
-        let m = crate::least(BLOCK_BYTES - place, n - d);
+        let m = (BLOCK_BYTES - place).min(n - d);
         put_piece(
             image,
             blocks[first + (start + d) / BLOCK_BYTES],

@@ -13,8 +13,8 @@ fn write_block(image: &mut [u8], block: u32, bytes: &[u8], i: usize)
     requires i_lt_unit_blocks { i < unit_blocks }
     ensures { image.new ≡ write_block image.old block (part (i * block_bytes) block_bytes bytes.now) }
 {
-    let from = crate::least(i * BLOCK_BYTES, bytes.len());
-    let n = crate::least(BLOCK_BYTES, bytes.len() - from);
+    let from = (i * BLOCK_BYTES).min(bytes.len());
+    let n = BLOCK_BYTES.min(bytes.len() - from);
     let at = block as usize * BLOCK_BYTES;
     words::range::copy_part(image, at, bytes, from, n);
     words::range::zero(image, at + n, at + BLOCK_BYTES);
@@ -27,11 +27,9 @@ pub fn write_new(image: &mut [u8], bytes: &[u8], kept: &[u32], blocks: &[u32])
     requires by_index { (i : ℕ) → i < length blocks.now → (get_or blocks.now i 0 + 1) * block_bytes ≤ length image.old }
     ensures { image.new ≡ write_new bytes.now 0 (entries kept.now) blocks.now image.old }
 {
-    let mut i: usize = 0;
-    while i < blocks.len() {
+    for (i, block) in blocks.iter().enumerate() {
         if kept[i] == 0 {
-            write_block(image, blocks[i], bytes, i);
+            write_block(image, *block, bytes, i);
         }
-        i += 1;
     }
 }

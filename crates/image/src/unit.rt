@@ -44,8 +44,8 @@ pub fn unit_bytes<'a>(
     ensures { result.now ≡ (pick covered then part from n bytes.now else take n assembled.now) }
 {
     if covered {
-        let end = from + n;
-        return &bytes[from..end];
+        &bytes[from..from + n]
+    } else {
+        &assembled[..n]
     }
-    &assembled[..n]
 }

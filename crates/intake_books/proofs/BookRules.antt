@@ -21,17 +21,6 @@ use Rattle.book.proofs.OrderLaws.{ascending-both}
 use Rattle.intake_books.specs.BookTests.{lent_as, card_right, extent_right, group_right, record_kept, cards_kept, extents_kept, groups_kept, cards_right, extents_right, groups_right, files_right}
 use Rattle.intake_books.proofs.WalkLaws.{all_both, all-records, first-kept, walk-all, Kept, kept-none, kept_more}
 
--- ---- tests one after the other
-
-module _ (a b m : Bool) (e : m ≡ a) where
-  -- the first does not pass: both do not
-  pub both-stop : not m ≡ true → false ≡ (a && b)
-  both-stop t = rw (← e, not-true m t) refl
-
-  -- it does: it is left to the second
-  pub both_go : not m ≡ false → (k : Bool) → k ≡ b → k ≡ (a && b)
-  both_go t k q = rw (← e, not-false m t, ← q) refl
-
 -- ---- cards
 
 cards-walk : (n : ℕ) (s : List ℕ) → all (record_kept card_right card_before decode_card card_bytes s) (range 0 n) ≡ cards_kept n s
@@ -166,9 +155,9 @@ sorted true true true true true true true true true true true true true true i =
 
 module _ (blocks : ℕ) (cards : List ℕ) (n : ℕ) (extents : List ℕ) (m : ℕ) (groups : List ℕ) (k : ℕ) where
   -- the tests of the books are the rules
-  pub books-kept : books_keep_rules blocks (lent_as cards n extents m groups k) ≡ (cards_right n cards && (extents_right blocks m extents && (groups_right k groups && files_right n cards m extents)))
+  pub books_kept : books_keep_rules blocks (lent_as cards n extents m groups k) ≡ (cards_right n cards && (extents_right blocks m extents && (groups_right k groups && files_right n cards m extents)))
   unfolding books_keep_rules bytes_keep_rules records_keep_rules decode_books ordered packed fixed_right times_right none_empty no_overlap on_device in_files slots_right cards_right extents_right groups_right files_right cards_kept extents_kept groups_kept
-  books-kept =
+  books_kept =
       let cs = decode_book decode_card card_bytes n cards in
       let es = decode_book decode_extent extent_bytes m extents in
       let gs = decode_book decode_group group_bytes k groups in
@@ -177,70 +166,16 @@ module _ (blocks : ℕ) (cards : List ℕ) (n : ℕ) (extents : List ℕ) (m : �
       (all absent_zero (pieces group_bytes k groups)) (ascending card_before cs) (ascending extent_before es) (ascending group_before gs)
       (all card_times_right cs) (all (λ e. ltb 0 e.count) es) (neighbours apart es) (all (λ e. leb (e.physical + e.count) blocks) es) (all (in_file cs) es)
 
--- ---- a book, after its tail
-
-module _ (n : ℕ) (s : List ℕ) (m : Bool) where
-  -- something stands behind the last card
-  pub cards-tail : m ≡ zero_behind card_bytes n s → not m ≡ true → false ≡ cards_right n s
-  unfolding cards_right
-  cards-tail e t = both-stop (zero_behind card_bytes n s) (cards_kept n s) m e t
-
-  -- nothing does
-  pub cards-left : (k : Bool) → m ≡ zero_behind card_bytes n s → not m ≡ false → k ≡ cards_kept n s → k ≡ cards_right n s
-  unfolding cards_right
-  cards-left k e t q = both_go (zero_behind card_bytes n s) (cards_kept n s) m e t k q
-
-  -- something stands behind the last extent
-  pub extents-tail : (blocks : ℕ) → m ≡ zero_behind extent_bytes n s → not m ≡ true → false ≡ extents_right blocks n s
-  unfolding extents_right
-  extents-tail blocks e t = both-stop (zero_behind extent_bytes n s) (extents_kept blocks n s) m e t
-
-  -- nothing does
-  pub extents-left : (blocks : ℕ) (k : Bool) → m ≡ zero_behind extent_bytes n s → not m ≡ false → k ≡ extents_kept blocks n s → k ≡ extents_right blocks n s
-  unfolding extents_right
-  extents-left blocks k e t q = both_go (zero_behind extent_bytes n s) (extents_kept blocks n s) m e t k q
-
-  -- something stands behind the last group
-  pub groups-tail : m ≡ zero_behind group_bytes n s → not m ≡ true → false ≡ groups_right n s
-  unfolding groups_right
-  groups-tail e t = both-stop (zero_behind group_bytes n s) (groups_kept n s) m e t
-
-  -- nothing does
-  pub groups-left : (k : Bool) → m ≡ zero_behind group_bytes n s → not m ≡ false → k ≡ groups_kept n s → k ≡ groups_right n s
-  unfolding groups_right
-  groups-left k e t q = both_go (zero_behind group_bytes n s) (groups_kept n s) m e t k q
-
--- ---- the first book that breaks a rule
-
-module _ (blocks : ℕ) (cards : List ℕ) (n : ℕ) (extents : List ℕ) (m : ℕ) (groups : List ℕ) (k : ℕ) (a : Bool) (e : a ≡ cards_right n cards) where
-  -- the cards
-  pub cards-break : not a ≡ true → true ≡ not (books_keep_rules blocks (lent_as cards n extents m groups k))
-  cards-break t = rw (books-kept blocks cards n extents m groups k, ← e, not-true a t) refl
-
-  module _ (b : Bool) (f : b ≡ extents_right blocks m extents) (t : not a ≡ false) where
-    -- the extents
-    pub extents-break : not b ≡ true → true ≡ not (books_keep_rules blocks (lent_as cards n extents m groups k))
-    extents-break u = rw (books-kept blocks cards n extents m groups k, ← e, not-false a t, ← f, not-true b u) refl
-
-    module _ (c : Bool) (g : c ≡ groups_right k groups) (u : not b ≡ false) where
-      -- the groups
-      pub groups-break : not c ≡ true → true ≡ not (books_keep_rules blocks (lent_as cards n extents m groups k))
-      groups-break v = rw (books-kept blocks cards n extents m groups k, ← e, not-false a t, ← f, not-false b u, ← g, not-true c v) refl
-
-      -- or the extents in their files
-      pub files-break : not c ≡ false → (d : Bool) → d ≡ files_right n cards m extents → not d ≡ not (books_keep_rules blocks (lent_as cards n extents m groups k))
-      files-break v d h = rw (books-kept blocks cards n extents m groups k, ← e, not-false a t, ← f, not-false b u, ← g, not-false c v, ← h) refl
-
 -- cards that are right ascend
-pub cards-ascend : (n : ℕ) (s : List ℕ) (a : Bool) → a ≡ cards_right n s → not a ≡ false → ascending card_before (decode_book decode_card card_bytes n s) ≡ true
+pub cards-ascend : (n : ℕ) (s : List ℕ) (a : Bool) → a ≡ cards_right n s → a ≡ true → ascending card_before (decode_book decode_card card_bytes n s) ≡ true
 unfolding cards_right cards_kept
 cards-ascend n s a e t =
     let cs = decode_book decode_card card_bytes n s in
     let f : Bool = all card_spare_zero (pieces card_bytes n s) in
-    and_right f (ascending card_before cs) (and_left (f && ascending card_before cs) (all card_times_right cs) (and_right (zero_behind card_bytes n s) ((f && ascending card_before cs) && all card_times_right cs) (sym e ∙ not-false a t)))
+    and_right f (ascending card_before cs) (and_left (f && ascending card_before cs) (all card_times_right cs) (and_right (zero_behind card_bytes n s) ((f && ascending card_before cs) && all card_times_right cs) (sym e ∙ t)))
 
 -- and extents
-pub extents-ascend : (blocks n : ℕ) (s : List ℕ) (a : Bool) → a ≡ extents_right blocks n s → not a ≡ false → ascending extent_before (decode_book decode_extent extent_bytes n s) ≡ true
+pub extents-ascend : (blocks n : ℕ) (s : List ℕ) (a : Bool) → a ≡ extents_right blocks n s → a ≡ true → ascending extent_before (decode_book decode_extent extent_bytes n s) ≡ true
 unfolding extents_right extents_kept
 extents-ascend blocks n s a e t =
     let es : List Extent = decode_book decode_extent extent_bytes n s in
@@ -249,4 +184,4 @@ extents-ascend blocks n s a e t =
     let c : Bool = all (λ x. ltb 0 x.count) es in
     let p : Bool = neighbours apart es in
     let d : Bool = all (λ x. leb (x.physical + x.count) blocks) es in
-    and_right f o (and_left (f && o) c (and_left ((f && o) && c) p (and_left (((f && o) && c) && p) d (and_right (zero_behind extent_bytes n s) ((((f && o) && c) && p) && d) (sym e ∙ not-false a t)))))
+    and_right f o (and_left (f && o) c (and_left ((f && o) && c) p (and_left (((f && o) && c) && p) d (and_right (zero_behind extent_bytes n s) ((((f && o) && c) && p) && d) (sym e ∙ t)))))

@@ -25,17 +25,17 @@ lent_as cards card_count extents extent_count groups group_count = record {
 -- ---- one record
 
 -- the bytes of a card: the spare bit is zero, and the time is one
-unfoldable pub card_right : List ℕ → Bool
+abbrev pub card_right : List ℕ → Bool
 card_right p = card_spare_zero p && card_times_right (decode_card p)
 
 -- the bytes of an extent: its fixed bytes, and it is not empty and lies on a device of so many blocks
-unfoldable pub extent_right : ℕ → List ℕ → Bool
+abbrev pub extent_right : ℕ → List ℕ → Bool
 extent_right blocks p =
     extent_fixed p
     && (ltb 0 (decode_extent p).count && leb ((decode_extent p).physical + (decode_extent p).count) blocks)
 
 -- the bytes of a group: its fixed byte, and no slot that is not present but not zero
-unfoldable pub group_right : List ℕ → Bool
+abbrev pub group_right : List ℕ → Bool
 group_right p = group_fixed p && absent_zero p
 
 -- the record at a place passes a test of its bytes, and one with the record before it
@@ -69,15 +69,15 @@ groups_kept n s =
     && all absent_zero (pieces group_bytes n s)
 
 -- a book of n cards
-unfoldable pub cards_right : ℕ → List ℕ → Bool
+abbrev pub cards_right : ℕ → List ℕ → Bool
 cards_right n s = zero_behind card_bytes n s && cards_kept n s
 
 -- a book of n extents
-unfoldable pub extents_right : ℕ → ℕ → List ℕ → Bool
+abbrev pub extents_right : ℕ → ℕ → List ℕ → Bool
 extents_right blocks n s = zero_behind extent_bytes n s && extents_kept blocks n s
 
 -- a book of n groups
-unfoldable pub groups_right : ℕ → List ℕ → Bool
+abbrev pub groups_right : ℕ → List ℕ → Bool
 groups_right n s = zero_behind group_bytes n s && groups_kept n s
 
 -- ---- extents in their files

@@ -28,17 +28,14 @@ const NANOSECONDS: u64 = 1000000000;
 const LAST_BYTE: u64 = BLOCK_BYTES as u64 - 1;
 
 // Whether the card at `at` has its spare bits zero, and two times.
+#[tactic(auto, unfolding(rules::specs::Integrity::card_times_right))]
 pub fn card_right(s: &[u8], at: usize) -> bool
     requires { at + card_bytes ≤ length s.now }
     ensures { result ≡ card_right (part at card_bytes s.now) }
 {
-    if !format::card::card_spare_zero(s, at) {
-        return false;
-    }
-    if format::card::card_nanoseconds(s, at) >= NANOSECONDS {
-        return false;
-    }
-    format::card::card_created_nanoseconds(s, at) < NANOSECONDS
+    format::card::card_spare_zero(s, at)
+        && format::card::card_nanoseconds(s, at) < NANOSECONDS
+        && format::card::card_created_nanoseconds(s, at) < NANOSECONDS
 }
 
 // Whether the card at place `i` is right, and follows the one before it.
@@ -60,12 +57,10 @@ pub fn cards_kept(s: &[u8], n: usize) -> bool
     requires { card_bytes * n ≤ length s.now }
     ensures { result ≡ cards_kept n s.now }
 {
-    let mut i: usize = 0;
-    while i < n {
+    for i in 0..n {
         if !card_step(s, i) {
             return false;
         }
-        i += 1;
     }
     true
 }
@@ -75,25 +70,17 @@ pub fn cards_right(s: &[u8], n: usize) -> bool
     requires { card_bytes * n ≤ length s.now }
     ensures { result ≡ cards_right n s.now }
 {
-    if !book::order::cards_packed(s, n) {
-        return false;
-    }
-    cards_kept(s, n)
+    book::order::cards_packed(s, n) && cards_kept(s, n)
 }
 
 // Whether the extent at `at` has its fixed bytes, is not empty, and lies on a device of so many blocks.
+#[tactic(auto, unfolding(format::specs::Records::extent_of))]
 pub fn extent_right(s: &[u8], at: usize, blocks: u64) -> bool
     requires { at + extent_bytes ≤ length s.now }
     ensures { result ≡ extent_right blocks (part at extent_bytes s.now) }
 {
-    if !format::extent::extent_fixed(s, at) {
-        return false;
-    }
     let e = format::extent::decode_extent(s, at);
-    if e.count == 0 {
-        return false;
-    }
-    e.on_device(blocks)
+    format::extent::extent_fixed(s, at) && 0 < e.count && e.on_device(blocks)
 }
 
 // Whether the extent at place `i`, behind `last`, is right and follows it.
@@ -121,13 +108,11 @@ pub fn extents_kept(s: &[u8], n: usize, blocks: u64) -> bool
         return false;
     }
     let mut last = format::extent::decode_extent(s, 0);
-    let mut i: usize = 1;
-    while i < n {
+    for i in 1..n {
         if !extent_step(s, i, last, blocks) {
             return false;
         }
         last = format::extent::decode_extent(s, EXTENT_BYTES * i);
-        i += 1;
     }
     true
 }
@@ -137,10 +122,7 @@ pub fn extents_right(s: &[u8], n: usize, blocks: u64) -> bool
     requires { extent_bytes * n ≤ length s.now }
     ensures { result ≡ extents_right blocks n s.now }
 {
-    if !book::order::extents_packed(s, n) {
-        return false;
-    }
-    extents_kept(s, n, blocks)
+    book::order::extents_packed(s, n) && extents_kept(s, n, blocks)
 }
 
 // Whether the group at `at` has its fixed byte, and zeros in each slot that is not present.
@@ -148,10 +130,7 @@ pub fn group_right(s: &[u8], at: usize) -> bool
     requires { at + group_bytes ≤ length s.now }
     ensures { result ≡ group_right (part at group_bytes s.now) }
 {
-    if !checksum_group::group_fixed(s, at) {
-        return false;
-    }
-    checksum_group::absent_zero(s, at)
+    checksum_group::group_fixed(s, at) && checksum_group::absent_zero(s, at)
 }
 
 // Whether the group at place `i` is right, and follows the one before it.
@@ -173,12 +152,10 @@ pub fn groups_kept(s: &[u8], n: usize) -> bool
     requires { group_bytes * n ≤ length s.now }
     ensures { result ≡ groups_kept n s.now }
 {
-    let mut i: usize = 0;
-    while i < n {
+    for i in 0..n {
         if !group_step(s, i) {
             return false;
         }
-        i += 1;
     }
     true
 }
@@ -188,10 +165,7 @@ pub fn groups_right(s: &[u8], n: usize) -> bool
     requires { group_bytes * n ≤ length s.now }
     ensures { result ≡ groups_right n s.now }
 {
-    if !book::order::groups_packed(s, n) {
-        return false;
-    }
-    groups_kept(s, n)
+    book::order::groups_packed(s, n) && groups_kept(s, n)
 }
 
 // From place `a` on the first of `n` cards whose object is `object` or more, or `n`.
@@ -199,12 +173,10 @@ fn card_from(s: &[u8], n: usize, a: usize, object: u64) -> usize
     requires { (a ≤ n) × (card_bytes * n ≤ length s.now) }
     ensures { CardFrom object n a s.now result }
 {
-    let mut i = a;
-    while i < n {
+    for i in a..n {
         if object <= format::card::card_object(s, CARD_BYTES * i) {
             return i;
         }
-        i += 1;
     }
     n
 }
@@ -238,8 +210,7 @@ fn same_file(s: &[u8], m: usize, a: usize, object: u64, limit: u64) -> usize
     requires { (a ≤ m) × (extent_bytes * m ≤ length s.now) }
     ensures { SameFile object limit m a s.now result }
 {
-    let mut i = a;
-    while i < m {
+    for i in a..m {
         let e = format::extent::decode_extent(s, EXTENT_BYTES * i);
         if e.object != object {
             return i;
@@ -247,7 +218,6 @@ fn same_file(s: &[u8], m: usize, a: usize, object: u64, limit: u64) -> usize
         if !e.ends_by(limit) {
             return i;
         }
-        i += 1;
     }
     m
 }
@@ -276,6 +246,7 @@ pub fn files_right(cards: &[u8], n: usize, extents: &[u8], m: usize) -> bool
 }
 
 // Whether the books of a store of so many blocks break a rule of refusal 2: `n` cards, `m` extents and `k` groups.
+#[tactic(auto, using(crate::proofs::BookRules::books_kept))]
 pub fn books_broken(
     blocks: u64,
     cards: &[u8],
@@ -288,14 +259,8 @@ pub fn books_broken(
     requires { (card_bytes * n ≤ length cards.now) × (extent_bytes * m ≤ length extents.now) × (group_bytes * k ≤ length groups.now) }
     ensures { result ≡ not (books_keep_rules blocks (lent_as cards.now n extents.now m groups.now k)) }
 {
-    if !cards_right(cards, n) {
-        return true;
-    }
-    if !extents_right(extents, m, blocks) {
-        return true;
-    }
-    if !groups_right(groups, k) {
-        return true;
-    }
-    !files_right(cards, n, extents, m)
+    !(cards_right(cards, n)
+        && extents_right(extents, m, blocks)
+        && groups_right(groups, k)
+        && files_right(cards, n, extents, m))
 }

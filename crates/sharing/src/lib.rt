@@ -48,12 +48,10 @@ fn blocks_shared(extents: &[u8], n: usize, seen: &mut [u8]) -> bool
     requires seen_value { seen.old ≡ replicate seen_bytes 0 }
     ensures { TellsShared result (decode_book decode_extent extent_bytes n extents.now) }
 {
-    let mut i: usize = 0;
-    while i < n {
+    for i in 0..n {
         if look_at_extent(extents, i, seen) {
             return true;
         }
-        i += 1;
     }
     false
 }

@@ -3,16 +3,18 @@
 use mathlib.Core.Path.{◌≡◌, refl, sym, ap, ◌∙◌}
 use mathlib.Core.Bool.{Bool, true, false, not, ◌||◌}
 use mathlib.Core.List.{List, [], ◌∷◌}
-use Prim.Native.Nat.{ℕ, suc, ◌+◌, ◌-◌, ◌*◌, ◌/◌, ◌%◌, ◌≤◌, ◌<◌}
+use Prim.Native.Nat.{ℕ, suc, ◌+◌, ◌-◌, ◌*◌, ◌/◌, ◌≤◌, ◌<◌}
 use native.Mathlib.Omega.{arith}
 use lib.Dec.{eqb, ltb}
 use lib.ListN.{length, drop, drop_of_length-le}
 use lib.Seq.{drop-cons}
 use borrow.Author.Tests.{eqb-true, eqb-false, eq-eqb, ne_eqb, lt-ltb, le-ltb}
+use Rattle.std.specs.Prelude.{Option, None, Some, MatchOption, is_some}
+use Rattle.std.specs.Option.{option_eq}
 use Rattle.rules.specs.Lists.{any}
 use Rattle.rules.specs.Sizes.{most_transfer}
 use Rattle.rules.specs.Bytes.{le, part}
-use Rattle.rules.specs.Triples.{Triple, triple_bytes, most_triples, decode_triple, decode_triples, list_wrong, lengths_of}
+use Rattle.rules.specs.Triples.{Triple, triple_bytes, decode_triple, decode_triples, lengths_of}
 use Rattle.rules.specs.Batch.{length_over}
 use Rattle.rules.proofs.ByteLaws.{part-part}
 use Rattle.rules.proofs.BookLaws.{length-decode_book}
@@ -37,16 +39,6 @@ triple-read s i at t e o f l =
     λ k. record { object = o' k; offset = f' k; len = l' k }
 
 module _ (list : List ℕ) where
-  -- a list that is not whole triples
-  pub list-ragged : (length list % triple_bytes ≡ 0 → ⊥) → true ≡ list_wrong list
-  unfolding list_wrong
-  list-ragged z = rw (ne_eqb (length list % triple_bytes) 0 z) refl
-
-  -- one that is
-  pub list-whole : length list % triple_bytes ≡ 0 → ltb most_triples (length list / triple_bytes) ≡ list_wrong list
-  unfolding list_wrong
-  list-whole z = rw (eq-eqb (length list % triple_bytes) 0 z) refl
-
   -- the triples are as many as are whole
   pub length-triples : length (decode_triples list) ≡ length list / triple_bytes
   unfolding decode_triples
@@ -128,35 +120,40 @@ module _ (list : List ℕ) where
 
     module _ (left i n : ℕ) (e : n ≡ length list / triple_bytes) (h : LeftOf room left i) where
       -- the length at the place exceeds what is left
-      past_room : (t : struct.Triple) → i < n → triple_of t ≡ triple_at list i → left < t.len → room < lengths_of (decode_triples list)
+      pub past_room : (t : struct.Triple) → i < n → triple_of t ≡ triple_at list i → left < t.len → room < lengths_of (decode_triples list)
       past_room t l q x = omega (arith, h, read-lengths i n e t l q, x)
-
-      -- so the lengths exceed the room
-      pub left-short : (t : struct.Triple) → i < n → triple_of t ≡ triple_at list i → left < t.len → true ≡ ltb room (lengths_of (decode_triples list))
-      left-short t l q x = sym (lt-ltb room (lengths_of (decode_triples list)) (past_room t l q x))
-
-      -- and do not add up to it
-      pub left-differs : (t : struct.Triple) → i < n → triple_of t ≡ triple_at list i → left < t.len → true ≡ not (eqb (lengths_of (decode_triples list)) room)
-      left-differs t l q x = sym (ap not (ne_eqb (lengths_of (decode_triples list)) room (λ z. omega (arith, z, past_room t l q x))))
 
       -- it does not exceed it
       pub left-more : (t : struct.Triple) → i < n → triple_of t ≡ triple_at list i → t.len ≤ left → LeftOf room (left - t.len) (i + 1)
       left-more t l q x = omega (arith, h, read-lengths i n e t l q, x)
 
       -- no length is behind
-      none-behind : n ≤ i → left + lengths_of (decode_triples list) ≡ room
+      pub none-behind : n ≤ i → left + lengths_of (decode_triples list) ≡ room
       unfolding lengths_of
       none-behind l =
           let z : lengths_of (triples_from list i) ≡ 0 = ap lengths_of (from_end i (omega (arith, l, e))) in
           omega (arith, h, z)
 
-      -- so the lengths do not exceed the room
-      pub left_end : n ≤ i → false ≡ ltb room (lengths_of (decode_triples list))
-      left_end l = sym (le-ltb room (lengths_of (decode_triples list)) (omega (arith, none-behind l)))
+    module _ (r : Option ℕ) (h : MatchOption r (room < lengths_of (decode_triples list)) (λ left. left + lengths_of (decode_triples list) ≡ room)) (b : Bool) where
+      -- the lengths exceed the room where nothing is left
+      pub exceeds : is_some r ≡ not b → b ≡ ltb room (lengths_of (decode_triples list))
+      exceeds e = decide r h b e
+        where
+          decide : (r : Option ℕ) → MatchOption r (room < lengths_of (decode_triples list)) (λ left. left + lengths_of (decode_triples list) ≡ room) → (b : Bool) → is_some r ≡ not b
+              → b ≡ ltb room (lengths_of (decode_triples list))
+          decide None l true e = sym (lt-ltb room (lengths_of (decode_triples list)) l)
+          decide None l false e = cc
+          decide (Some x) l true e = cc
+          decide (Some x) l false e = sym (le-ltb room (lengths_of (decode_triples list)) (omega (arith, l)))
 
-      -- and add up to it where nothing is left
-      pub left-none : n ≤ i → not (eqb left 0) ≡ not (eqb (lengths_of (decode_triples list)) room)
-      left-none l =
-          test-cases _ (eqb left 0)
-          (λ p. ap not (p ∙ sym (eq-eqb (lengths_of (decode_triples list)) room (omega (arith, eqb-true left 0 p, none-behind l)))))
-          (λ p. ap not (p ∙ sym (ne_eqb (lengths_of (decode_triples list)) room (λ z. eqb-false left 0 p (omega (arith, z, none-behind l))))))
+      -- and add up to it where 0 is
+      pub differs : b ≡ not (option_eq eqb r (Some 0)) → b ≡ not (eqb (lengths_of (decode_triples list)) room)
+      differs e = e ∙ decide r h
+        where
+          decide : (r : Option ℕ) → MatchOption r (room < lengths_of (decode_triples list)) (λ left. left + lengths_of (decode_triples list) ≡ room)
+              → not (option_eq eqb r (Some 0)) ≡ not (eqb (lengths_of (decode_triples list)) room)
+          decide None l = sym (ap not (ne_eqb (lengths_of (decode_triples list)) room (λ z. omega (arith, z, l))))
+          decide (Some x) l =
+              test-cases _ (eqb x 0)
+              (λ p. ap not (p ∙ sym (eq-eqb (lengths_of (decode_triples list)) room (omega (arith, eqb-true x 0 p, l)))))
+              (λ p. ap not (p ∙ sym (ne_eqb (lengths_of (decode_triples list)) room (λ z. eqb-false x 0 p (omega (arith, z, l))))))

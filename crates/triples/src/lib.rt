@@ -1,7 +1,7 @@
 // A lent list of triples (object, offset, length), each number in 8 bytes, little-endian: the tests of the list, and a triple of it.
 #![tactic(auto)]
 
-ghost use Rattle.std.specs.Prelude.{◌≡◌, not, ◌+◌, ◌*◌, ◌≤◌, eqb, ltb, length};
+ghost use Rattle.std.specs.Prelude.{◌≡◌, not, ◌+◌, ◌*◌, ◌≤◌, ◌<◌, eqb, ltb, length, MatchOption};
 ghost use Rattle.rules.specs.Triples.{triple_bytes, decode_triples, list_wrong, lengths_of};
 ghost use Rattle.rules.specs.Batch.{length_over};
 ghost use Rattle.triples.specs.Triple.{triple_of, triple_at};
@@ -42,63 +42,51 @@ pub fn triple_at(list: &[u8], i: usize) -> Triple
 }
 
 // Whether a list is not whole triples, or has too many.
+#[tactic(auto, unfolding(rules::specs::Triples::list_wrong))]
 pub fn list_wrong(list: &[u8]) -> bool
     ensures { result ≡ list_wrong list.now }
 {
-    if list.len() % TRIPLE_BYTES != 0 {
-        return true;
-    }
-    MOST_TRIPLES < list.len() / TRIPLE_BYTES
+    list.len() % TRIPLE_BYTES != 0 || MOST_TRIPLES < list.len() / TRIPLE_BYTES
 }
 
-// Whether the lengths together exceed `room`. They are taken off it one after another: their sum may pass 64 bits.
+// What the lengths leave of `room`, or nothing where they exceed it. They are taken off it one after another: their sum may pass 64 bits.
+fn left_of(list: &[u8], room: u64) -> Option<u64>
+    ensures { MatchOption result (room < lengths_of (decode_triples list.now)) (λ left. left + lengths_of (decode_triples list.now) ≡ room) }
+{
+    let mut left = room;
+    for i in 0..list.len() / TRIPLE_BYTES {
+        let t = triple_at(list, i);
+        if left < t.len {
+            return None;
+        }
+        left -= t.len;
+    }
+    Some(left)
+}
+
+// Whether the lengths together exceed `room`.
 pub fn lengths_exceed(list: &[u8], room: usize) -> bool
     ensures { result ≡ ltb room (lengths_of (decode_triples list.now)) }
 {
-    let n = list.len() / TRIPLE_BYTES;
-    let mut left = room as u64;
-    let mut i: usize = 0;
-    while i < n {
-        let t = triple_at(list, i);
-        if left < t.len {
-            return true;
-        }
-        left -= t.len;
-        i += 1;
-    }
-    false
+    left_of(list, room as u64).is_none()
 }
 
 // Whether a length exceeds what one write takes.
 pub fn length_over(list: &[u8]) -> bool
     ensures { result ≡ length_over (decode_triples list.now) }
 {
-    let n = list.len() / TRIPLE_BYTES;
-    let mut i: usize = 0;
-    while i < n {
+    for i in 0..list.len() / TRIPLE_BYTES {
         let t = triple_at(list, i);
         if MOST_TRANSFER < t.len {
             return true;
         }
-        i += 1;
     }
     false
 }
 
-// Whether the lengths do not add up to `total`. They are taken off it one after another, as above.
+// Whether the lengths do not add up to `total`.
 pub fn lengths_differ(list: &[u8], total: usize) -> bool
     ensures { result ≡ not (eqb (lengths_of (decode_triples list.now)) total) }
 {
-    let n = list.len() / TRIPLE_BYTES;
-    let mut left = total as u64;
-    let mut i: usize = 0;
-    while i < n {
-        let t = triple_at(list, i);
-        if left < t.len {
-            return true;
-        }
-        left -= t.len;
-        i += 1;
-    }
-    left != 0
+    left_of(list, total as u64) != Some(0)
 }

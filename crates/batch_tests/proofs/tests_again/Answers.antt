@@ -7,7 +7,7 @@ pub returns-then-list-le-TRIPLE_BYTES : goal.returns-then-list-le-TRIPLE_BYTES
 returns-then-list-le-TRIPLE_BYTES c = single-again _ _ c.if-list-le-TRIPLE_BYTES.true
 
 pub shared_blocks-requires : goal.shared_blocks-requires
-shared_blocks-requires c = record { n_in_bounds = (head-counts _ _ c.requires _ c.decode_head-h.ensures.0).0; extents_value = (head-counts _ _ c.requires _ c.decode_head-h.ensures.0).1 }
+shared_blocks-requires c = record { n_in_bounds = (head-counts _ _ c.requires _ c.decode_head.ensures.0).0; extents_value = (head-counts _ _ c.requires _ c.decode_head.ensures.0).1 }
 
-pub returns : goal.returns
-returns c = counted-tells _ _ _ _ c.decode_head-h.ensures.0 _ c.shared_blocks.ensures
+pub returns-else-list-le-TRIPLE_BYTES : goal.returns-else-list-le-TRIPLE_BYTES
+returns-else-list-le-TRIPLE_BYTES c = counted-tells _ _ _ _ c.decode_head.ensures.0 _ c.shared_blocks.ensures

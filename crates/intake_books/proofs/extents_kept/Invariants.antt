@@ -12,6 +12,3 @@ use Rattle.intake_books.proofs.extents_kept.Given as goal
 abbrev pub invariant-loop-i : goal.invariant-loop-i
 invariant-loop-i l =
     (0 < l.i) × Kept (extent_right l.blocks) follows decode_extent extent_bytes l.s l.i × (extent_of l.last ≡ record_at decode_extent extent_bytes l.s (l.i - 1))
-
-abbrev pub decreases-loop-i : goal.decreases-loop-i
-decreases-loop-i l = l.n - l.i

@@ -8,6 +8,3 @@ use Rattle.intake_books.proofs.groups_kept.Given as goal
 
 abbrev pub invariant-loop-i : goal.invariant-loop-i
 invariant-loop-i l = Kept group_right group_before decode_group group_bytes l.s l.i
-
-abbrev pub decreases-loop-i : goal.decreases-loop-i
-decreases-loop-i l = l.n - l.i

@@ -1,7 +1,6 @@
 -- `sharing::blocks_shared` meets its contract. The loop keeps: the blocks of the extents before place `i` are marked, and none of them was marked twice.
 -- Assumes nothing.
 use mathlib.Core.Path.{◌≡◌}
-use Prim.Native.Nat.{◌-◌, ◌≤◌}
 use lib.ListN.{length}
 use Rattle.rules.specs.Extent.{extent_bytes, decode_extent}
 use Rattle.rules.specs.Book.{decode_book}
@@ -10,7 +9,4 @@ use Rattle.sharing.proofs.blocks_shared.Given as goal
 
 abbrev pub invariant-loop-i : goal.invariant-loop-i
 invariant-loop-i l =
-    (l.i ≤ l.n) × (length l.seen ≡ length l.initial.seen) × Seen l.seen (decode_book decode_extent extent_bytes l.i l.extents)
-
-abbrev pub decreases-loop-i : goal.decreases-loop-i
-decreases-loop-i l = l.n - l.i
+    (length l.seen ≡ length l.initial.seen) × Seen l.seen (decode_book decode_extent extent_bytes l.i l.extents)

@@ -14,7 +14,7 @@ pub loop-d-preserved : goal.loop-d-preserved
 loop-d-preserved c = (
   omega arith,
   omega (arith, c.put_piece.auto.out),
-  out-more _ _ _ _ _ c.requires.inside (omega arith) (omega arith) _ _ _ _ _ _ c.loop-d.invariant.2 (omega arith) refl refl c.least-m.ensures c.put_piece.ensures,
+  out-more _ _ _ _ _ c.requires.inside (omega arith) (omega arith) _ _ _ _ _ _ c.loop-d.invariant.2 (omega arith) refl refl c.min-m.ensures c.put_piece.ensures,
 )
 
 pub returns : goal.returns

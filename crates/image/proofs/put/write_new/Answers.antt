@@ -13,14 +13,12 @@ pub loop-i-preserved : goal.loop-i-preserved
 loop-i-preserved c =
     elim c.if-kept-i-eq0.branch [
       | then-kept-i-eq0 w ↦ (
-        omega arith,
         omega (arith, ap length w.image-is),
-        put-new _ _ _ _ c.requires.kept_len _ _ _ c.loop-i.invariant.2 c.loop-i-test.true w.if-kept-i-eq0.true (w.image-is ∙ w.write_block.ensures),
+        put-new _ _ _ _ c.requires.kept_len _ _ _ c.loop-i.invariant.1 c.loop-i-test.true w.if-kept-i-eq0.true (w.image-is ∙ w.write_block.ensures),
       )
       | else-kept-i-eq0 w ↦ (
-        omega arith,
         omega (arith, ap length w.image-is),
-        put-kept _ _ _ _ c.requires.kept_len _ _ _ c.loop-i.invariant.2 c.loop-i-test.true w.if-kept-i-eq0.false w.image-is,
+        put-kept _ _ _ _ c.requires.kept_len _ _ _ c.loop-i.invariant.1 c.loop-i-test.true w.if-kept-i-eq0.false w.image-is,
       )
     ]
 
