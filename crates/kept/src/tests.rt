@@ -37,13 +37,57 @@ pub fn unit_blocks(size: u64, unit: u64) -> usize
     valid_length(size, unit).div_ceil(BLOCK_BYTES)
 }
 
+// Whether one of the `len` bytes from `offset` on falls between two places of the file, the second not included.
+#[tactic(auto, unfolding(crate::specs::Change::written_between))]
+pub fn written_in(offset: u64, len: usize, from: u64, to: u64) -> bool
+    requires { offset + len ≤ most_size }
+    ensures { result ≡ written_between offset (offset + len) from to }
+{
+    offset.max(from) < (offset + len as u64).min(to)
+}
+
+// Whether a written byte falls into the unit.
+pub fn touches(offset: u64, len: usize, unit: u64) -> bool
+    requires { (offset + len ≤ most_size) × (unit * unit_bytes ≤ most_size) }
+    ensures value { result ≡ written_between offset (offset + len) (unit * unit_bytes) (unit * unit_bytes + unit_bytes) }
+    ensures value_2 { (c : rules.Change) (before after : ℕ) → IsChange c before after offset len → result ≡ touches c unit }
+{
+    let start = unit * UNIT_BYTES as u64;
+    written_in(offset, len, start, start + UNIT_BYTES as u64)
+}
+
+// Whether the written bytes are all of the unit's new bytes: nothing of it is then read or put together.
+pub fn covers_new(offset: u64, len: usize, new_size: u64, unit: u64) -> bool
+    requires { (offset + len ≤ most_size) × (unit * unit_bytes ≤ most_size) }
+    ensures { (c : rules.Change) (before : ℕ) → IsChange c before new_size offset len → result ≡ covers_new c unit }
+{
+    let start = unit * UNIT_BYTES as u64;
+    offset <= start && start + valid_length(new_size, unit) as u64 <= offset + len as u64
+}
+
+// The caller's part of a unit that the write touches.
+pub fn written_part(offset: u64, len: usize, unit: u64) -> Part
+    requires len_bound { (offset + len ≤ most_size) × (unit * unit_bytes ≤ most_size) }
+    requires unit_bytes_value { written_between offset (offset + len) (unit * unit_bytes) (unit * unit_bytes + unit_bytes) ≡ true }
+    ensures placed { (c : rules.Change) (before after : ℕ) → IsChange c before after offset len → Placed c unit result }
+    ensures count_bound { (result.from + result.count ≤ len) × (result.at + result.count ≤ unit_bytes) }
+{
+    let start = unit * UNIT_BYTES as u64;
+    let from = offset.max(start);
+    let to = (offset + len as u64).min(start + UNIT_BYTES as u64);
+    Part {
+        from: (from - offset) as usize,
+        count: (to - from) as usize,
+        at: (from - start) as usize,
+    }
+}
+
 impl Change {
     // Whether a written byte falls between two places of the file, the second not included.
-    #[tactic(auto, unfolding(crate::specs::Change::written_between))]
     pub fn written_in(self, from: u64, to: u64) -> bool
         ensures { result ≡ written_between self.offset (self.offset + self.len) from to }
     {
-        self.offset.max(from) < self.end().min(to)
+        written_in(self.offset, self.len, from, to)
     }
 
     // Whether a written byte falls into the unit.
@@ -52,8 +96,7 @@ impl Change {
         ensures value { result ≡ written_between self.offset (self.offset + self.len) (unit * unit_bytes) (unit * unit_bytes + unit_bytes) }
         ensures value_2 { (c : rules.Change) (before after : ℕ) → IsChange c before after self.offset self.len → result ≡ touches c unit }
     {
-        let start = unit * UNIT_BYTES as u64;
-        self.written_in(start, start + UNIT_BYTES as u64)
+        touches(self.offset, self.len, unit)
     }
 
     // Whether the unit's old bytes are read: there are some, and the write does not cover all of them. A write over all of them needs no read, so
@@ -72,8 +115,7 @@ impl Change {
         requires { unit * unit_bytes ≤ most_size }
         ensures { (c : rules.Change) (before : ℕ) → IsChange c before self.new_size self.offset self.len → result ≡ covers_new c unit }
     {
-        let start = unit * UNIT_BYTES as u64;
-        self.offset <= start && start + valid_length(self.new_size, unit) as u64 <= self.end()
+        covers_new(self.offset, self.len, self.new_size, unit)
     }
 
     // The caller's part of a unit that the write touches.
@@ -83,13 +125,6 @@ impl Change {
         ensures placed { (c : rules.Change) (before after : ℕ) → IsChange c before after self.offset self.len → Placed c unit result }
         ensures count_bound { (result.from + result.count ≤ self.len) × (result.at + result.count ≤ unit_bytes) }
     {
-        let start = unit * UNIT_BYTES as u64;
-        let from = self.offset.max(start);
-        let to = self.end().min(start + UNIT_BYTES as u64);
-        Part {
-            from: (from - self.offset) as usize,
-            count: (to - from) as usize,
-            at: (from - start) as usize,
-        }
+        written_part(self.offset, self.len, unit)
     }
 }

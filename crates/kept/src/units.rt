@@ -58,10 +58,19 @@ impl Change {
         ensures upper_bound { result ≤ 1 }
         ensures units_after { (c : rules.Change) (after start len : ℕ) → IsChange c self.old_size after start len → take result units.new ≡ grow_units c }
     {
-        if self.old_size % UNIT_BYTES as u64 == 0 {
-            return 0;
-        }
-        units[0] = self.old_size / UNIT_BYTES as u64;
-        1
+        grow_units(self.old_size, units)
     }
+}
+
+// The same of a file of this size.
+pub fn grow_units(old_size: u64, units: &mut [u64]) -> usize
+    requires { 0 < length units.old }
+    ensures upper_bound { result ≤ 1 }
+    ensures units_after { (c : rules.Change) (after start len : ℕ) → IsChange c old_size after start len → take result units.new ≡ grow_units c }
+{
+    if old_size % UNIT_BYTES as u64 == 0 {
+        return 0;
+    }
+    units[0] = old_size / UNIT_BYTES as u64;
+    1
 }
