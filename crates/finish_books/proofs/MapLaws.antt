@@ -10,7 +10,7 @@ use native.Mathlib.Numerals.{add-one}
 use native.Mathlib.Omega.{arith}
 use borrow.Author.Tests.{eqb-true, eqb-false, eq-eqb, ne_eqb}
 use lib.Dec.{eqb}
-use lib.ListN.{length, take, drop, get_or, length-map, get_or-eq_default}
+use lib.ListN.{length, take, drop, get_or, length-map}
 use lib.Seq.{drop-nil, take-suc, take_all, take_at, drop_at, length-take-le}
 use Rattle.rules.specs.Lists.{member}
 use Rattle.rules.specs.Bytes.{Bytes, bit_set, bit_bytes}
@@ -245,22 +245,6 @@ retired-none m old kept c = marked-nothing m c
 -- behind the last
 pub retired-all : (old kept : List ℕ) (f : ℕ) (m a : List ℕ) → Marked m (superseded (entries (take f old)) (entries kept)) a → length old ≤ f → Marked m (superseded (entries old) (entries kept)) a
 retired-all old kept f m a h l = rw (take_all f old l) at h
-
-module _ (old kept : List ℕ) (f : ℕ) where
-  -- no block stood there
-  pub gone-not : get_or old f 0 ≡ 0 → false ≡ gone_at old kept f
-  unfolding gone_at
-  gone-not z = rw (eq-eqb (get_or old f 0) 0 z) refl
-
-  -- there is no place where it could be kept
-  pub gone-past : (get_or old f 0 ≡ 0 → ⊥) → length kept ≤ f → true ≡ gone_at old kept f
-  unfolding gone_at
-  gone-past d l = rw (ne_eqb (get_or old f 0) 0 d, get_or-eq_default kept 0 {n = f} l) refl
-
-  -- there is
-  pub gone-there : (get_or old f 0 ≡ 0 → ⊥) → eqb (get_or kept f 0) 0 ≡ gone_at old kept f
-  unfolding gone_at
-  gone-there d = rw (ne_eqb (get_or old f 0) 0 d) refl
 
 -- ---- of the rewritten units
 

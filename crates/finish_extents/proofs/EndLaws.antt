@@ -2,7 +2,7 @@
 -- Assumes nothing.
 use mathlib.Core.Path.{◌≡◌, refl, sym, ap, ◌∙◌}
 use mathlib.Core.List.{List, [], ◌∷◌, ◌++◌}
-use mathlib.Core.Bool.{Bool, true, false, ◌&&◌, and-false}
+use mathlib.Core.Bool.{Bool, true, false, ◌&&◌}
 use Prim.Native.Nat.{ℕ, zero, suc, ◌+◌, ◌-◌, ◌*◌, ◌^◌, ◌≤◌, ◌<◌, min, max}
 use native.Mathlib.Omega.{arith}
 use lib.Dec.{eqb, ltb, leb}
@@ -12,7 +12,7 @@ use Rattle.rules.specs.Sizes.{most_blocks}
 use Rattle.rules.specs.Bytes.{part}
 use Rattle.rules.specs.Extent.{Extent, extent_bytes, decode_extent, extent_end}
 use Rattle.rules.specs.Finish.{up_to, from, part_from}
-use Rattle.rules.proofs.ListLaws.{test-cases, clash, all-at, if-true, if-false, and_left, and_right, and_intro, pair_before-cases}
+use Rattle.rules.proofs.ListLaws.{test-cases, clash, all-at, if-true, if-false, and_left, and_right, pair_before-cases}
 use Rattle.rules.proofs.BookLaws.{length-decode_book, get_or-decode_book}
 use Rattle.format.specs.declared.extent.Extent.{Extent as ExtentStruct}
 use Rattle.format.specs.Records.{extent_of}
@@ -63,25 +63,6 @@ unfolding extent_of before
 before_same e object block x q h = h ∙ sym (if-true (eqb e.object object) (up_to (extent_of e) (min (extent_end (extent_of e)) block)) (extent_of e) (eq-eqb e.object object q))
 
 -- ---- from a block on
-
--- an extent of another file does not reach past the block
-pub reaches-other : (e : ExtentStruct) (object block : ℕ) → (e.object ≡ object → ⊥) → false ≡ reaches_past object block (extent_of e)
-unfolding extent_of reaches_past
-reaches-other e object block n = sym (ap (λ b. b && ltb block (extent_end (extent_of e))) (ne_eqb e.object object n))
-
--- one that ends by it does not
-pub reaches-not : (e : ExtentStruct) (object block : ℕ) (b : Bool) → b ≡ leb (extent_end (extent_of e)) block → b ≡ true → false ≡ reaches_past object block (extent_of e)
-unfolding extent_of reaches_past extent_end
-reaches-not e object block b q t =
-    let l : e.logical + e.count ≤ block = leb-true (e.logical + e.count) block (sym q ∙ t) in
-    test-cases (false ≡ (eqb e.object object && ltb block (e.logical + e.count))) (ltb block (e.logical + e.count))
-    (λ u. absurd (omega (arith, ltb-true block (e.logical + e.count) u))) (λ u. sym (ap (λ z. eqb e.object object && z) u ∙ and-false (eqb e.object object)))
-
--- any other does
-pub reaches-past : (e : ExtentStruct) (object block : ℕ) (b : Bool) → e.object ≡ object → b ≡ leb (extent_end (extent_of e)) block → b ≡ false → true ≡ reaches_past object block (extent_of e)
-unfolding extent_of reaches_past extent_end
-reaches-past e object block b p q t =
-    sym (and_intro (eqb e.object object) (ltb block (e.logical + e.count)) (eq-eqb e.object object p) (lt-ltb block (e.logical + e.count) (leb-false (e.logical + e.count) block (sym q ∙ t))))
 
 -- its part
 pub from_cut : (e : ExtentStruct) (block gone p n : ℕ) → e.logical ≤ block → block < e.logical + e.count → gone ≡ block - e.logical → p ≡ e.physical + gone → n ≡ e.count - gone

@@ -39,16 +39,11 @@ fn cut_before(e: Extent, object: u64, block: u64) -> Extent
 }
 
 // Whether `e` is of the file of `object` and ends behind the file's block `block`.
+#[tactic(auto, unfolding(crate::specs::Stretch::reaches_past, format::specs::Records::extent_of))]
 fn reaches(e: Extent, object: u64, block: u64) -> bool
     ensures { result ≡ reaches_past object block (extent_of e) }
 {
-    if e.object != object {
-        return false;
-    }
-    if e.ends_by(block) {
-        return false;
-    }
-    true
+    e.object == object && !e.ends_by(block)
 }
 
 // The part of `e` from its file's block `block` on.
