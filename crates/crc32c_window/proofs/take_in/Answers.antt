@@ -7,6 +7,3 @@ loop-i-init c = taken_none _ c.args.s.now
 
 pub loop-i-preserved : goal.loop-i-preserved
 loop-i-preserved c = taken_more _ _ _ _ _ c.loop-i.invariant c.added.ensures.sum c.added.ensures.oldest_fits (omega arith) c.loop-i-test.true
-
-pub returns : goal.returns
-returns c = taken_all _ _ _ _ c.loop-i.invariant (omega arith)
