@@ -1,4 +1,4 @@
-use Rattle.crc32c_window.proofs.WindowLaws.{taken_none, taken_more, taken_all}
+use Rattle.crc32c_window.proofs.WindowLaws.{taken_none, taken_more}
 use native.Mathlib.Omega.{arith}
 use Rattle.crc32c_window.proofs.take_in.Goals as goal
 
