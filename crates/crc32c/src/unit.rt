@@ -8,6 +8,7 @@ ghost use Rattle.crc32c_tables.specs.Register.{Tables};
 ghost use Rattle.crc32c.specs.Unit.{UnitFed};
 
 // Where the register is.
+// Kept: not Option<u32>, as `Window` says where the register is, and `None` would say that there is none.
 #[derive(Clone, Copy)]
 pub enum Running {
     Register(u32),

@@ -122,9 +122,6 @@ taken_more w s i r a p t o hw hs =
     x : ℕ
     x = get_or s i 0
 
-pub taken_all : (w s : List ℕ) (i r : ℕ) → register_at w (528 + i) ≡ fed r (take i s) → i ≡ length s → register_at w (528 + length s) ≡ fed r s
-taken_all w s i r p e = rw (← e) (p ∙ ap (fed r) (take_all i s (omega arith)))
-
 -- ---- moved down
 
 pub moved : (w v : List ℕ) (n r : ℕ) → v ≡ patch w (n - n) (part n (n + 528 - n) w) → register_at w (528 + n) ≡ r → n + 528 ≤ length w → register_at v 528 ≡ r
@@ -195,8 +192,3 @@ left w z u r e p q l =
     let m : length {A = ℕ} (replicate 1056 0) ≡ 1056 = length-replicate {A = ℕ} 1056 0 in
     q ∙ p ∙ sym (ap (stands taps) (latest-moved z w 528 528 528 (omega arith)
     (λ j g. rw (e, add_comm j 528) (sym (get_or-patch (replicate 1056 0) 528 j (part 0 528 w) (omega arith) (omega arith) ∙ get_d_part w 0 528 j g ∙ ap (λ (i : ℕ). get_or w i 0) (zero-add j))))))
-
--- ---- all of it
-
-pub all-fed : (s : List ℕ) (c x y r : ℕ) → x ≡ c → y ≡ fed x s → r ≡ y → r ≡ fed c s
-all-fed s c x y r p q e = e ∙ q ∙ ap (λ (z : ℕ). fed z s) p

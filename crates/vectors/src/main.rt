@@ -30,16 +30,6 @@ const UUID: [u8; 16] = [
     0xf0, 0xf1, 0xf2, 0xf3, 0xf4, 0xf5, 0xf6, 0xf7, 0xf8, 0xf9, 0xfa, 0xfb, 0xfc, 0xfd, 0xfe, 0xff,
 ];
 
-// A name and a checksum.
-fn crc_line(rt: &impl Print, name: &str, crc: u32) -> io::Result<()> {
-    println!(rt; "{name}{crc:08x}")
-}
-
-// A name and a number.
-fn number_line(rt: &impl Print, name: &str, n: u64) -> io::Result<()> {
-    println!(rt; "{name}{n}")
-}
-
 // A name, and each byte as two hexadecimal digits.
 fn bytes_line(rt: &impl Print, name: &str, s: &[u8]) -> io::Result<()> {
     print!(rt; "{name}")?;
@@ -51,22 +41,19 @@ fn bytes_line(rt: &impl Print, name: &str, s: &[u8]) -> io::Result<()> {
 
 // The five of B.4.
 fn rfc_3720(rt: &impl Print) -> io::Result<()> {
-    crc_line(rt, "32 bytes of 00: ", crc32c::checksum(&[0u8; 32]))?;
-    crc_line(rt, "32 bytes of ff: ", crc32c::checksum(&[0xffu8; 32]))?;
-    crc_line(rt, "00 up to 1f: ", crc32c::checksum(&UP))?;
-    crc_line(rt, "1f down to 00: ", crc32c::checksum(&DOWN))?;
-    crc_line(rt, "Read (10): ", crc32c::checksum(&READ_10))
+    println!(rt; "32 bytes of 00: {:08x}", crc32c::checksum(&[0u8; 32]))?;
+    println!(rt; "32 bytes of ff: {:08x}", crc32c::checksum(&[0xffu8; 32]))?;
+    println!(rt; "00 up to 1f: {:08x}", crc32c::checksum(&UP))?;
+    println!(rt; "1f down to 00: {:08x}", crc32c::checksum(&DOWN))?;
+    println!(rt; "Read (10): {:08x}", crc32c::checksum(&READ_10))
 }
 
 // The check value again, fed in two parts.
 fn in_parts(rt: &impl Print) -> io::Result<()> {
     let t = crc32c_tables::tables();
     let c = crc32c::feed(&t, crc32c::begin(), b"1234");
-    crc_line(
-        rt,
-        "1234 and 56789: ",
-        crc32c::finish(crc32c::feed(&t, c, b"56789")),
-    )
+    let c = crc32c::finish(crc32c::feed(&t, c, b"56789"));
+    println!(rt; "1234 and 56789: {c:08x}")
 }
 
 // 64 bits in both orders.
@@ -74,7 +61,7 @@ fn numbers(rt: &impl Print) -> io::Result<()> {
     let mut s = [0u8; 8];
     words::put_be64(&mut s, 0, 0x0102_0304_0506_0708);
     bytes_line(rt, "be64: ", &s)?;
-    number_line(rt, "le64 of it: ", words::le64(&s, 0))?;
+    println!(rt; "le64 of it: {}", words::le64(&s, 0))?;
     words::put_le64(&mut s, 0, 0x0102_0304_0506_0708);
     bytes_line(rt, "le64: ", &s)
 }
@@ -84,7 +71,7 @@ fn narrow_numbers(rt: &impl Print) -> io::Result<()> {
     let mut s = [0u8; 4];
     words::put_le32(&mut s, 0, 0x0102_0304);
     bytes_line(rt, "le32: ", &s)?;
-    number_line(rt, "be32 of it: ", words::be32(&s, 0) as u64)
+    println!(rt; "be32 of it: {}", words::be32(&s, 0))
 }
 
 // A head whose `extents` lies across the two words.
@@ -104,7 +91,7 @@ fn head(rt: &impl Print) -> io::Result<()> {
     );
     bytes_line(rt, "head: ", &s)?;
     let h = fields::read_head(&s, 0);
-    number_line(rt, "extents of it: ", h.extents)
+    println!(rt; "extents of it: {}", h.extents)
 }
 
 // A card whose `allocated`, `seconds` and creation time lie across two words.
@@ -126,10 +113,10 @@ fn card(rt: &impl Print) -> io::Result<()> {
     );
     bytes_line(rt, "card: ", &s)?;
     let c = fields::read_card(&s, 0);
-    number_line(rt, "allocated of it: ", c.allocated)?;
-    number_line(rt, "seconds of it: ", c.seconds)?;
-    number_line(rt, "creation seconds of it: ", c.created_seconds)?;
-    number_line(rt, "creation nanoseconds of it: ", c.created_nanoseconds)
+    println!(rt; "allocated of it: {}", c.allocated)?;
+    println!(rt; "seconds of it: {}", c.seconds)?;
+    println!(rt; "creation seconds of it: {}", c.created_seconds)?;
+    println!(rt; "creation nanoseconds of it: {}", c.created_nanoseconds)
 }
 
 // A map of 96 bits: a range set in single bits and in words, and one bit of it cleared.
@@ -138,32 +125,19 @@ fn bits(rt: &impl Print) -> io::Result<()> {
     bitmap::set_range(&mut m, 3, 85);
     bitmap::clear(&mut m, 80);
     bytes_line(rt, "bits 3 to 84 less 80: ", &m)?;
-    number_line(
-        rt,
-        "next clear from 3: ",
-        bitmap::next_clear(&m, 3, 96) as u64,
-    )?;
-    number_line(
-        rt,
-        "next set from 81: ",
-        bitmap::next_set(&m, 81, 96) as u64,
-    )?;
-    number_line(
-        rt,
-        "next clear of 3 to 79: ",
-        bitmap::next_clear(&m, 3, 80) as u64,
-    )?;
-    number_line(rt, "set bits: ", bitmap::count_set(&m, 0, 96) as u64)
+    println!(rt; "next clear from 3: {}", bitmap::next_clear(&m, 3, 96))?;
+    println!(rt; "next set from 81: {}", bitmap::next_set(&m, 81, 96))?;
+    println!(rt; "next clear of 3 to 79: {}", bitmap::next_clear(&m, 3, 80))?;
+    println!(rt; "set bits: {}", bitmap::count_set(&m, 0, 96))
 }
 
 fn main(rt: HostRuntime) -> io::Result<()> {
     rfc_3720(&rt)?;
-    crc_line(&rt, "123456789: ", crc32c::checksum(b"123456789"))?;
+    println!(rt; "123456789: {:08x}", crc32c::checksum(b"123456789"))?;
     in_parts(&rt)?;
-    crc_line(
-        &rt,
-        "unit: ",
-        crc32c::unit_checksum(&UUID, 0x0102_0304_0506_0708, 9, b"123456789"),
+    println!(rt;
+        "unit: {:08x}",
+        crc32c::unit_checksum(&UUID, 0x0102_0304_0506_0708, 9, b"123456789")
     )?;
     numbers(&rt)?;
     narrow_numbers(&rt)?;

@@ -12,7 +12,7 @@ use lib.Bits.{bit_or, or_zero_l, or_add_and, and_le_r}
 use lib.Dec.{eqb, eqb-suc-zero}
 use Rattle.std.specs.List.{fold}
 use lib.ListN.{length, take, drop, get_or, set, length-append}
-use lib.Seq.{sets-eq, length-take-le, set-append_left, take-suc, take-set-lt, take-suc-set, take_all, append_snoc}
+use lib.Seq.{sets-eq, length-take-le, set-append_left, take-suc, take-set-lt, take-suc-set, append_snoc}
 use Rattle.rules.specs.Lists.{all}
 use Rattle.rules.specs.Bytes.{part, patch, all_zero}
 use Rattle.rules.proofs.ByteLaws.{get_or-patch-before, get_or-patch-behind, length_part, length-patch, part-add, part_none, part-suc, patch-none, patch-patch}
@@ -108,10 +108,6 @@ copied-more s₀ s x at i e h l =
     let n : length (take i x) ≡ i = length-take-le i x (omega arith) in
     let t : take (i + 1) x ≡ take i x ++ (get_or x i 0 ∷ []) = rw add-one (take-suc x i 0 l) in
     rw (e, t) (patch-snoc s₀ at (at + i) (get_or x i 0) (take i x) (omega arith) (omega arith))
-
--- all of it
-pub copied : (s₀ s x : List ℕ) (at i : ℕ) → s ≡ patch s₀ at (take i x) → length x ≤ i → s ≡ patch s₀ at x
-copied s₀ s x at i e h = let w : take i x ≡ x = take_all i x h in rw w at e
 
 -- a copy of a part of another slice
 pub copied-part : (s x u : List ℕ) (at from n : ℕ) → u ≡ patch s at (take (from + n - from) (drop from x)) → u ≡ patch s at (part from n x)

@@ -1,4 +1,4 @@
-use Rattle.words.proofs.RangeLaws.{copied-none, copied-more, copied}
+use Rattle.words.proofs.RangeLaws.{copied-none, copied-more}
 use Rattle.words.proofs.range.copy.Goals as goal
 
 pub loop-i-init : goal.loop-i-init
@@ -6,6 +6,3 @@ loop-i-init c = copied-none _ c.args.x.now _
 
 pub loop-i-preserved : goal.loop-i-preserved
 loop-i-preserved c = copied-more _ _ _ _ _ c.loop-i.invariant c.requires c.loop-i-test.true
-
-pub returns : goal.returns
-returns c = copied _ _ _ _ _ c.loop-i.invariant c.loop-i-test.false

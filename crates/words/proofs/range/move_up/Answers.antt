@@ -1,6 +1,5 @@
 use Rattle.words.proofs.RangeLaws.{up_none, up_more}
 use native.Mathlib.Omega.{arith}
-use mathlib.Core.Path.{◌≡◌}
 use borrow.Author.Rules.{rules}
 use Rattle.words.proofs.range.move_up.Goals as goal
 
@@ -9,6 +8,3 @@ loop-j-init c = search (up_none, rules)
 
 pub loop-j-preserved : goal.loop-j-preserved
 loop-j-preserved c = (omega arith, up_more _ _ _ _ _ c.loop-j.invariant.1 (omega arith) (omega arith) (omega arith))
-
-pub returns : goal.returns
-returns c = let q : c.loop-j.j ≡ c.args.a = omega arith in rw q at c.loop-j.invariant.1
