@@ -6,11 +6,10 @@ use mathlib.Core.Option.{some, none}
 use Prim.Native.Nat.{ℕ, ◌+◌, ◌*◌, ◌%◌, ◌≤◌, ◌<◌}
 use native.Mathlib.Omega.{arith}
 use lib.Dec.{eqb}
-use lib.ListN.{length, take, replicate}
-use lib.Seq.{length-take-le}
+use lib.ListN.{length}
 use borrow.Author.Tests.{eq-eqb, ne_eqb}
 use Rattle.rules.specs.Lists.{find}
-use Rattle.rules.specs.Sizes.{unit_blocks, unit_bytes, most_transfer}
+use Rattle.rules.specs.Sizes.{unit_bytes, most_transfer}
 use Rattle.rules.specs.Bytes.{part}
 use Rattle.rules.specs.Head.{Head, decode_head}
 use Rattle.rules.specs.Card.{card_bytes, decode_card}
@@ -26,10 +25,6 @@ use Rattle.read.specs.Range.{Readable}
 use Rattle.read.specs.Gives.{gives, gives_checked, checked_units, gives_sized, gives_read}
 
 -- ---- lengths
-
--- the room for the blocks of a read's units is there
-pub blocks-room : (k : ℕ) → k ≤ 17 → k * unit_blocks ≡ length {A = ℕ} (take (k * unit_blocks) (replicate 272 0))
-blocks-room k l = sym (length-take-le {A = ℕ} (k * unit_blocks) (replicate 272 0) (omega (arith, l)))
 
 -- a read that gets some bytes lies in the file, in the buffer and in the limit
 pub read-within : (size offset room n : ℕ) → n ≡ read_length size offset room → (n ≡ 0 → ⊥) → (0 < n) × (n ≤ most_transfer) × (offset + n ≤ size) × (n ≤ room)

@@ -25,12 +25,6 @@ use Rattle.read.specs.Range.{Readable, checked_range}
 use Rattle.read.specs.Gives.{gives, gives_checked, checked_units}
 use Rattle.read.proofs.HandedLaws.{handed_out}
 
--- units checked with the checksums that were looked up
-pub slots-checked : (image uuid slots : List ℕ) (object size first r : ℕ) (found mapped : List (Option ℕ)) → entries slots ≡ found
-    → r ≡ checked_number (check_mapped image uuid object size first (entries slots) mapped) → r ≡ checked_number (check_mapped image uuid object size first found mapped)
-slots-checked image uuid slots object size first r found mapped e q =
-    q ∙ ap (λ (xs : List (Option ℕ)). checked_number (check_mapped image uuid object size first xs mapped)) e
-
 -- the blocks that were looked up lie in the image
 pub range_inside : (image extents groups : List ℕ) (e g : ℕ) → Readable image extents groups e g → (object first m : ℕ) (blocks : List ℕ)
     → entries blocks ≡ map (mapping (extents_in e extents) object) (range first m) → Inside image blocks

@@ -17,9 +17,6 @@ overflow_add-end c =
 pub slice_bounds-hand_out_piece-end : goal.slice_bounds-hand_out_piece-end
 slice_bounds-hand_out_piece-end c = handed-room _ _ _ _ _ _ _ _ _ _ refl c.loop-i.invariant.1 _ c.loop-i-test.true c.triple_at-t.ensures
 
-pub hand_out_piece-last-requires : goal.hand_out_piece-last-requires
-hand_out_piece-last-requires c = let p = c.requires in record { extents_right = p.extents_right; blocks_len = omega (arith, p.blocks_len); in_hand = c.loop-i.invariant.0 }
-
 pub loop-i-preserved : goal.loop-i-preserved
 loop-i-preserved c =
     let h = c.hand_out_piece-last in

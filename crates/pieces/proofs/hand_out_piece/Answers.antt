@@ -16,9 +16,6 @@ units_touched-k-requires c = let w = read-within _ _ _ _ c.read_length-n.ensures
 pub map_stretch-next-requires : goal.map_stretch-next-requires
 map_stretch-next-requires c = let p = c.requires in record { extents_right = extents-wider p.extents_right; blocks_len = p.blocks_len; k_le_most_units = c.units_touched-k.ensures.2; unit_blocks_bound = omega arith; in_hand = p.in_hand }
 
-pub slice_bounds-hand_out-end-2 : goal.slice_bounds-hand_out-end-2
-slice_bounds-hand_out-end-2 c = blocks-room _ _ c.units_touched-k.ensures.2 (c.map_stretch-next.auto.blocks ∙ c.requires.blocks_len)
-
 pub hand_out-requires : goal.hand_out-requires
 hand_out-requires c =
     let p = c.requires in

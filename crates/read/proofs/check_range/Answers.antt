@@ -1,7 +1,6 @@
 -- `read::check_range` meets its contract.
 -- Assumes nothing.
 use native.Mathlib.Omega.{arith}
-use mathlib.Core.Path.{sym}
 use Prim.Native.Nat.{ℕ}
 use lib.ListN.{replicate}
 use lib.Seq.{length-take-le}
@@ -11,9 +10,6 @@ use Rattle.read.proofs.check_range.Goals as goal
 
 pub map_blocks-requires : goal.map_blocks-requires
 map_blocks-requires c = let p = c.requires in record { extents_right = extents-wider p.readable.right; blocks_len_bound = omega arith; blocks_bound = omega arith }
-
-pub slice_bounds-check_slots-end : goal.slice_bounds-check_slots-end
-slice_bounds-check_slots-end c = sym (length-take-le _ _ c.requires.blocks_len.1)
 
 pub check_slots-requires : goal.check_slots-requires
 check_slots-requires c = let p = c.requires in let l = length-take-le {A = ℕ} _ (replicate 17 0) p.blocks_len.1 in record { tables = p.tables; w_len = p.w_len; g_in_bounds = p.readable.places; inside = range_inside _ _ _ _ _ p.readable _ _ _ _ c.map_blocks.ensures.0; blocks_len = omega (arith, l, p.blocks_len); unit_bytes_bound = omega (arith, l, p.unit_bytes_bound) }

@@ -8,9 +8,6 @@ use Rattle.format.proofs.RefusalLaws.{refusal-positive}
 use Rattle.read.proofs.RangeLaws.{range_inside, range-refused, range-done}
 use Rattle.read.proofs.read_range.Goals as goal
 
-pub check_range-requires : goal.check_range-requires
-check_range-requires c = let p = c.requires in record { tables = p.tables; w_len = p.w_len; readable = p.readable; blocks_len = p.blocks_len; unit_bytes_bound = omega (arith, p.k_value, p.n_nonzero) }
-
 pub returns-in_err-check_range : goal.returns-in_err-check_range
 unfolding number_in count_in
 returns-in_err-check_range c =

@@ -7,9 +7,6 @@ use Rattle.format.specs.Refusals.{refusal_of, number_in, count_in}
 use Rattle.read_checks.proofs.CheckedLaws.{earlier-right, card-there, size-found, number-none, checked-none, checked-some}
 use Rattle.read_checks.proofs.check_read.Goals as goal
 
-pub find_card-requires : goal.find_card-requires
-find_card-requires c = let p = c.requires in omega (arith, p.read_ready.places, p.n_value)
-
 pub overflow_mul-c : goal.overflow_mul-c
 overflow_mul-c c = let p = c.requires in let w = card-there _ _ _ _ _ p.n_value _ c.triple_at-x.ensures _ c.find_card.ensures _ c.in-Some.is p.read_ready.places in omega (arith, w)
 
@@ -18,12 +15,6 @@ card_size-size-requires c = let p = c.requires in card-there _ _ _ _ _ p.n_value
 
 pub check_sized-r-requires : goal.check_sized-r-requires
 check_sized-r-requires c = let p = c.requires in let r = p.read_ready in record { tables = p.tables; w_len = p.w_len; head_len = r.width; readable = r.books; triple_bytes_in_bounds = (p.triple_bytes_in_bounds.0, omega (arith, p.triple_bytes_in_bounds.1, p.triple_bytes_in_bounds.2)); by_index = earlier-right _ _ _ _ _ _ p.earlier (size-found _ _ _ _ _ p.n_value _ c.triple_at-x.ensures _ c.find_card.ensures _ _ c.in-Some.is c.card_size-size.ensures.0) }
-
-pub offset_bounds-sizes-i : goal.offset_bounds-sizes-i
-offset_bounds-sizes-i c = let p = c.requires in omega (arith, p.triple_bytes_in_bounds.1)
-
-pub bounds-sizes-i : goal.bounds-sizes-i
-bounds-sizes-i c = let p = c.requires in omega (arith, p.triple_bytes_in_bounds.1, p.triple_bytes_in_bounds.2)
 
 pub returns-in-Some : goal.returns-in-Some
 returns-in-Some c = let p = c.requires in checked-some _ _ _ _ _ _ _ _ (omega (arith, p.triple_bytes_in_bounds.1, p.triple_bytes_in_bounds.2)) (size-found _ _ _ _ _ p.n_value _ c.triple_at-x.ensures _ c.find_card.ensures _ _ c.in-Some.is c.card_size-size.ensures.0) c.check_sized-r.ensures

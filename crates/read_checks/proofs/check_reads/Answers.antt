@@ -11,9 +11,6 @@ use Rattle.read_checks.proofs.check_reads.Goals as goal
 pub loop-i-init : goal.loop-i-init
 loop-i-init c = let p = c.requires in list-none _ _ _ _ p.triple_bytes_len_bound.1
 
-pub check_read-requires : goal.check_read-requires
-check_read-requires c = let p = c.requires in let i = c.loop-i.invariant in let l = c.loop-i-test.true in record { tables = p.tables; w_len = omega arith; read_ready = p.read_ready; n_value = p.n_value; triple_bytes_in_bounds = (omega (arith, l), omega (arith, l, p.triple_bytes_len_bound.0), i.room); earlier = i.earlier }
-
 pub returns-in_err-made : goal.returns-in_err-made
 unfolding number_in count_in
 returns-in_err-made c =

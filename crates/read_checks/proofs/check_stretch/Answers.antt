@@ -10,9 +10,6 @@ use Rattle.read_checks.proofs.check_stretch.Goals as goal
 pub loop-j-init : goal.loop-j-init
 loop-j-init c = passed_none _ _ _ _ _ _
 
-pub check_new-requires : goal.check_new-requires
-check_new-requires c = let p = c.requires in record { tables = p.tables; w_len = omega arith; head_len = p.head_len; readable = p.readable; i_in_bounds = p.i_in_bounds; unit_bytes_bound = omega (arith, p.unit_bytes_bound, c.loop-j-test.true); unit_value = p.by_index _ }
-
 pub returns-in_err-made : goal.returns-in_err-made
 unfolding number_in count_in
 returns-in_err-made c =

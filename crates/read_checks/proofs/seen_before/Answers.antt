@@ -1,4 +1,4 @@
-use Rattle.read_checks.proofs.NumberLaws.{seen_none, seen_more, seen_here, seen_never}
+use Rattle.read_checks.proofs.NumberLaws.{seen_none, seen_more, seen_here}
 use borrow.Author.Rules.{rules}
 use Rattle.read_checks.proofs.seen_before.Goals as goal
 
@@ -10,6 +10,3 @@ returns-then-in_read c = search (seen_here, rules)
 
 pub loop-j-preserved : goal.loop-j-preserved
 loop-j-preserved c = search (seen_more, rules)
-
-pub returns : goal.returns
-returns c = search (seen_never, rules)
