@@ -24,9 +24,6 @@ use format::sizes::BLOCK_BYTES;
 // A second has so many nanoseconds.
 const NANOSECONDS: u64 = 1000000000;
 
-// The last byte of a block.
-const LAST_BYTE: u64 = BLOCK_BYTES as u64 - 1;
-
 // Whether the card at `at` has its spare bits zero, and two times.
 #[tactic(auto, unfolding(rules::specs::Integrity::card_times_right))]
 pub fn card_right(s: &[u8], at: usize) -> bool
@@ -182,27 +179,21 @@ fn card_from(s: &[u8], n: usize, a: usize, object: u64) -> usize
 }
 
 // Whether the card at place `i`, if one of the `n` stands there, is that of an extent, which lies within the blocks of its size.
+#[tactic(auto, unfolding(book::specs::Places::record_at, format::specs::Records::extent_of))]
 fn in_file(s: &[u8], n: usize, i: usize, e: Extent) -> bool
     requires { card_bytes * n ≤ length s.now }
     ensures { result ≡ in_file_at (extent_of e) n s.now i }
 {
-    if n <= i {
-        return false;
-    }
-    if format::card::card_object(s, CARD_BYTES * i) != e.object {
-        return false;
-    }
-    let size = format::card::card_size(s, CARD_BYTES * i);
-    e.ends_by((size + LAST_BYTE) / BLOCK_BYTES as u64)
+    i < n && format::card::card_object(s, CARD_BYTES * i) == e.object && e.ends_by(file_blocks(s, i))
 }
 
 // The blocks of the size on the card at place `i`.
+#[tactic(auto, unfolding(book::specs::Places::record_at))]
 fn file_blocks(s: &[u8], i: usize) -> u64
     requires { card_bytes * i + card_bytes ≤ length s.now }
     ensures { result ≡ begun (record_at decode_card card_bytes s.now i).size block_bytes }
 {
-    let size = format::card::card_size(s, CARD_BYTES * i);
-    (size + LAST_BYTE) / BLOCK_BYTES as u64
+    format::card::card_size(s, CARD_BYTES * i).div_ceil(BLOCK_BYTES as u64)
 }
 
 // From place `a` on the first of `m` extents that is not one of `object` or ends past block `limit` of its file, or `m`.
