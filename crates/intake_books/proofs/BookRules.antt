@@ -6,7 +6,6 @@ use mathlib.Core.List.{List}
 use Prim.Native.Nat.{ℕ, ◌+◌, ◌≤◌, ◌<◌}
 use native.Mathlib.Omega.{arith}
 use lib.Dec.{ltb, leb}
-use borrow.Author.Tests.{not-true, not-false}
 use Rattle.rules.specs.Lists.{range, all, neighbours, ascending}
 use Rattle.rules.specs.Bytes.{part, pieces}
 use Rattle.rules.specs.Card.{card_bytes, decode_card, card_spare_zero, card_before}

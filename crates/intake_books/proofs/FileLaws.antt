@@ -1,13 +1,13 @@
 -- Laws of a walk through cards and extents side by side: both ascend, so the card of an extent stands at or behind that of the extent before it.
 -- Assumes nothing.
-use mathlib.Core.Path.{◌≡◌, refl, sym, ap, ◌∙◌}
+use mathlib.Core.Path.{◌≡◌, sym, ap, ◌∙◌}
 use mathlib.Core.Bool.{Bool, true, false, not, ◌&&◌}
 use mathlib.Core.List.{List, []}
-use Prim.Native.Nat.{ℕ, zero, suc, ◌+◌, ◌-◌, ◌*◌, ◌/◌, ◌≤◌, ◌<◌}
+use Prim.Native.Nat.{ℕ, zero, suc, ◌+◌, ◌-◌, ◌*◌, ◌≤◌, ◌<◌}
 use native.Mathlib.Decide.{dec_lt}
 use native.Mathlib.Nat.{zero-add, add-zero, add-suc}
 use native.Mathlib.Omega.{arith}
-use borrow.Author.Tests.{eqb-true, eq-eqb, ne_eqb, not-false, ltb-true, ltb-false, lt-ltb, le-ltb}
+use borrow.Author.Tests.{eqb-true, eq-eqb, not-false, ltb-true, ltb-false, lt-ltb}
 use lib.Dec.{eqb, ltb, leb}
 use lib.ListN.{length}
 use Rattle.rules.specs.Lists.{range, all, any, ascending, begun}
@@ -85,7 +85,7 @@ module _ (n : ℕ) (s : List ℕ) (h : ascending card_before (decode_book decode
 
   -- so the test of that card is the test of the book
   pub file-there : in_file (decode_book decode_card card_bytes n s) e ≡ in_file_at e n s r
-  unfolding in_file in_file_at in_file_of
+  unfolding in_file
   file-there =
       let cs : List Card = decode_book decode_card card_bytes n s in
       let len : length cs ≡ n = length-decode_book decode_card card_bytes n s in
@@ -245,11 +245,6 @@ same_here object limit m a s i u l h = record { least = l; most = h; within = u 
 pub same_end : (object limit m a : ℕ) (s : List ℕ) (i : ℕ) → Within object limit a s i → a ≤ m → m ≤ i → i ≤ m → SameFile object limit m a s m
 same_end object limit m a s i u l h g = record { least = l; most = omega arith; within = λ k b c. u k b (omega arith) }
 
--- the blocks of a card's size
-pub blocks-of : (s : List ℕ) (i z r : ℕ) → z ≡ (decode_card (part (card_bytes * i) card_bytes s)).size → r ≡ (z + 4095) / 4096 → r ≡ begun (record_at decode_card card_bytes s i).size block_bytes
-unfolding record_at
-blocks-of s i z r e q = q ∙ ap (λ (n : ℕ). begun n block_bytes) e
-
 -- ---- the search for a card
 
 -- the cards from place a to i are below an object
@@ -282,22 +277,3 @@ module _ (object a : ℕ) (s : List ℕ) (i : ℕ) (u : Under object a s i) (x :
 -- it stands nowhere
 pub from_end : (object a n : ℕ) (s : List ℕ) (i : ℕ) → Under object a s i → a ≤ n → n ≤ i → CardFrom object n a s n
 from_end object a n s i u l h = record { least = l; most = omega arith; below = λ k b c. u k b (omega arith); there = λ t. absurd (omega arith) }
-
--- ---- the test of a card
-
-module _ (x : ExtentStruct) (n i : ℕ) (s : List ℕ) where
-  -- no card stands there
-  pub file-none : n ≤ i → false ≡ in_file_at (extent_of x) n s i
-  unfolding in_file_at
-  file-none l = rw (le-ltb i n l) refl
-
-  module _ (l : i < n) (o : ℕ) (q : o ≡ (decode_card (part (card_bytes * i) card_bytes s)).object) where
-    -- the card there is another's
-    pub file-other : (o ≡ x.object → ⊥) → false ≡ in_file_at (extent_of x) n s i
-    unfolding in_file_at in_file_of record_at extent_of
-    file-other f = rw (lt-ltb i n l, ← q, ne_eqb o x.object f) refl
-
-    -- it is the extent's
-    pub file-size : o ≡ x.object → (z : ℕ) → z ≡ (decode_card (part (card_bytes * i) card_bytes s)).size → (k : Bool) → k ≡ leb (extent_end (extent_of x)) ((z + 4095) / 4096) → k ≡ in_file_at (extent_of x) n s i
-    unfolding in_file_at in_file_of record_at extent_of
-    file-size f z r k u = u ∙ rw (lt-ltb i n l, ← q, eq-eqb o x.object f, r) refl

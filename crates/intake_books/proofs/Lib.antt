@@ -1,4 +1,3 @@
 pub mod BookRules
 pub mod FileLaws
-pub mod RecordRules
 pub mod WalkLaws

@@ -1,12 +1,12 @@
 -- Laws of a walk through a book that looks at each record and the one before it, over any width and any tests.
 -- Assumes nothing.
 use mathlib.Core.Path.{◌≡◌, refl, sym, ap, ◌∙◌}
-use mathlib.Core.Bool.{Bool, true, false, not, ◌&&◌}
+use mathlib.Core.Bool.{Bool, true, false, not, ◌&&◌, ◌||◌}
 use mathlib.Core.List.{List, [], ◌∷◌}
 use Prim.Native.Nat.{ℕ, zero, suc, ◌+◌, ◌-◌, ◌*◌, ◌<◌}
 use native.Mathlib.Nat.{zero-add}
 use native.Mathlib.Omega.{arith}
-use borrow.Author.Tests.{eq-eqb, ne_eqb, not-true, not-false}
+use borrow.Author.Tests.{ne_eqb}
 use lib.Dec.{eqb}
 use lib.ListN.{length, get_or}
 use Rattle.rules.specs.Lists.{pick◌then◌else◌, range, all, neighbours}
@@ -111,21 +111,15 @@ module _ {A : Type 0} (decode : List ℕ → A) (w : ℕ) (s : List ℕ) where
 
 -- ---- one step
 
-module _ {A : Type 0} (decode : List ℕ → A) (w : ℕ) (s : List ℕ) (one : List ℕ → Bool) (pair : A → A → Bool) (i : ℕ) (m : Bool) (e : m ≡ one (part (w * i) w s)) where
-  -- the record does not pass its own test
-  pub kept-fails : not m ≡ true → false ≡ record_kept one pair decode w s i
-  unfolding record_kept
-  kept-fails t = rw (← e, not-true m t) refl
-
-  -- it does, and is the first
-  pub kept-first : not m ≡ false → i ≡ 0 → true ≡ record_kept one pair decode w s i
-  unfolding record_kept pick◌then◌else◌
-  kept-first t z = rw (← e, not-false m t, eq-eqb i 0 z) refl
-
-  -- it does, and stands behind another
-  pub kept_next : not m ≡ false → (i ≡ 0 → ⊥) → (k : Bool) → k ≡ pair (record_at decode w s (i - 1)) (record_at decode w s i) → k ≡ record_kept one pair decode w s i
-  unfolding record_kept pick◌then◌else◌
-  kept_next t z k q = rw (← e, not-false m t, ne_eqb i 0 z, ← q) refl
+-- the record passes its own test, and is the first or the one with the record before it
+pub kept_is : {A : Type 0} (one : List ℕ → Bool) (pair : A → A → Bool) (decode : List ℕ → A) (w : ℕ) (s : List ℕ) (i : ℕ)
+    → record_kept one pair decode w s i ≡ (one (part (w * i) w s) && (eqb i 0 || pair (record_at decode w s (i - 1)) (record_at decode w s i)))
+unfolding record_kept pick◌then◌else◌
+kept_is one pair decode w s i = ap (λ (b : Bool). one (part (w * i) w s) && b) (choice (eqb i 0) (pair (record_at decode w s (i - 1)) (record_at decode w s i)))
+  where
+    choice : (a b : Bool) → (pick a then true else b) ≡ (a || b)
+    choice true b = refl
+    choice false b = refl
 
 -- records passed, one after the other
 abbrev pub Kept : {A : Type 0} → (List ℕ → Bool) → (A → A → Bool) → (List ℕ → A) → ℕ → List ℕ → ℕ → Type 0

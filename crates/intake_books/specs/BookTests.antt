@@ -88,11 +88,11 @@ files_right n cards m extents =
     all (in_file (decode_book decode_card card_bytes n cards)) (decode_book decode_extent extent_bytes m extents)
 
 -- an extent lies in the file of a card
-unfoldable pub in_file_of : Extent → Card → Bool
+abbrev pub in_file_of : Extent → Card → Bool
 in_file_of e c = eqb c.object e.object && leb (extent_end e) (begun c.size block_bytes)
 
 -- it lies in the file of the card at a place, if one of n cards stands there
-unfoldable pub in_file_at : Extent → ℕ → List ℕ → ℕ → Bool
+abbrev pub in_file_at : Extent → ℕ → List ℕ → ℕ → Bool
 in_file_at e n s i = ltb i n && in_file_of e (record_at decode_card card_bytes s i)
 
 -- from the place a on, r is the first of n cards whose object is not below this one

@@ -24,9 +24,6 @@ use format::sizes::BLOCK_BYTES;
 // A second has so many nanoseconds.
 const NANOSECONDS: u64 = 1000000000;
 
-// The last byte of a block.
-const LAST_BYTE: u64 = BLOCK_BYTES as u64 - 1;
-
 // Whether the card at `at` has its spare bits zero, and two times.
 #[tactic(auto, unfolding(rules::specs::Integrity::card_times_right))]
 pub fn card_right(s: &[u8], at: usize) -> bool
@@ -39,17 +36,12 @@ pub fn card_right(s: &[u8], at: usize) -> bool
 }
 
 // Whether the card at place `i` is right, and follows the one before it.
+#[tactic(auto, using(crate::proofs::WalkLaws::kept_is))]
 fn card_step(s: &[u8], i: usize) -> bool
     requires { card_bytes * i + card_bytes ≤ length s.now }
     ensures { result ≡ record_kept card_right card_before decode_card card_bytes s.now i }
 {
-    if !card_right(s, CARD_BYTES * i) {
-        return false;
-    }
-    if i == 0 {
-        return true;
-    }
-    book::order::card_follows(s, i)
+    card_right(s, CARD_BYTES * i) && (i == 0 || book::order::card_follows(s, i))
 }
 
 // Whether the first `n` cards keep the rules on cards.
@@ -84,16 +76,15 @@ pub fn extent_right(s: &[u8], at: usize, blocks: u64) -> bool
 }
 
 // Whether the extent at place `i`, behind `last`, is right and follows it.
+#[tactic(auto, using(crate::proofs::WalkLaws::kept_is), unfolding(book::specs::Places::record_at))]
 fn extent_step(s: &[u8], i: usize, last: Extent, blocks: u64) -> bool
     requires i_nonzero { 0 < i }
     requires extent_bytes_in_bounds { extent_bytes * i + extent_bytes ≤ length s.now }
     requires last_value { extent_of last ≡ record_at decode_extent extent_bytes s.now (i - 1) }
     ensures { result ≡ record_kept (extent_right blocks) follows decode_extent extent_bytes s.now i }
 {
-    if !extent_right(s, EXTENT_BYTES * i, blocks) {
-        return false;
-    }
-    book::order::extent_follows(last, format::extent::decode_extent(s, EXTENT_BYTES * i))
+    extent_right(s, EXTENT_BYTES * i, blocks)
+        && book::order::extent_follows(last, format::extent::decode_extent(s, EXTENT_BYTES * i))
 }
 
 // Whether the first `n` extents keep the rules on extents, but for that on their files. Each is decoded once: the one before is kept.
@@ -134,17 +125,12 @@ pub fn group_right(s: &[u8], at: usize) -> bool
 }
 
 // Whether the group at place `i` is right, and follows the one before it.
+#[tactic(auto, using(crate::proofs::WalkLaws::kept_is))]
 fn group_step(s: &[u8], i: usize) -> bool
     requires { group_bytes * i + group_bytes ≤ length s.now }
     ensures { result ≡ record_kept group_right group_before decode_group group_bytes s.now i }
 {
-    if !group_right(s, GROUP_BYTES * i) {
-        return false;
-    }
-    if i == 0 {
-        return true;
-    }
-    book::order::group_follows(s, i)
+    group_right(s, GROUP_BYTES * i) && (i == 0 || book::order::group_follows(s, i))
 }
 
 // Whether the first `n` groups keep the rules on groups.
@@ -182,27 +168,23 @@ fn card_from(s: &[u8], n: usize, a: usize, object: u64) -> usize
 }
 
 // Whether the card at place `i`, if one of the `n` stands there, is that of an extent, which lies within the blocks of its size.
+#[tactic(auto, unfolding(book::specs::Places::record_at, format::specs::Records::extent_of))]
 fn in_file(s: &[u8], n: usize, i: usize, e: Extent) -> bool
     requires { card_bytes * n ≤ length s.now }
     ensures { result ≡ in_file_at (extent_of e) n s.now i }
 {
-    if n <= i {
-        return false;
-    }
-    if format::card::card_object(s, CARD_BYTES * i) != e.object {
-        return false;
-    }
-    let size = format::card::card_size(s, CARD_BYTES * i);
-    e.ends_by((size + LAST_BYTE) / BLOCK_BYTES as u64)
+    i < n
+        && format::card::card_object(s, CARD_BYTES * i) == e.object
+        && e.ends_by(file_blocks(s, i))
 }
 
 // The blocks of the size on the card at place `i`.
+#[tactic(auto, unfolding(book::specs::Places::record_at))]
 fn file_blocks(s: &[u8], i: usize) -> u64
     requires { card_bytes * i + card_bytes ≤ length s.now }
     ensures { result ≡ begun (record_at decode_card card_bytes s.now i).size block_bytes }
 {
-    let size = format::card::card_size(s, CARD_BYTES * i);
-    (size + LAST_BYTE) / BLOCK_BYTES as u64
+    format::card::card_size(s, CARD_BYTES * i).div_ceil(BLOCK_BYTES as u64)
 }
 
 // From place `a` on the first of `m` extents that is not one of `object` or ends past block `limit` of its file, or `m`.

@@ -1,6 +1,6 @@
 -- `intake_books::card_from` meets its contract.
 -- Assumes nothing.
-use Prim.Native.Nat.{◌-◌, ◌≤◌}
+use Prim.Native.Nat.{◌≤◌}
 use Rattle.intake_books.proofs.FileLaws.{Under}
 use Rattle.intake_books.proofs.card_from.Given as goal
 

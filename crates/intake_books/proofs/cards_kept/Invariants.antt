@@ -1,6 +1,5 @@
 -- `intake_books::cards_kept` meets its contract.
 -- Assumes nothing.
-use Prim.Native.Nat.{◌-◌}
 use Rattle.rules.specs.Card.{card_bytes, decode_card, card_before}
 use Rattle.intake_books.proofs.WalkLaws.{Kept}
 use Rattle.intake_books.specs.BookTests.{card_right}

@@ -1,6 +1,5 @@
 -- `intake_books::groups_kept` meets its contract.
 -- Assumes nothing.
-use Prim.Native.Nat.{◌-◌}
 use Rattle.rules.specs.Group.{group_bytes, decode_group, group_before}
 use Rattle.intake_books.proofs.WalkLaws.{Kept}
 use Rattle.intake_books.specs.BookTests.{group_right}

@@ -1,7 +1,7 @@
 -- `intake_books::same_file` meets its contract.
 -- Assumes nothing.
 use Rattle.intake_books.proofs.FileLaws.{Within}
-use Prim.Native.Nat.{◌-◌, ◌≤◌}
+use Prim.Native.Nat.{◌≤◌}
 use Rattle.intake_books.proofs.same_file.Given as goal
 
 abbrev pub invariant-loop-i : goal.invariant-loop-i
