@@ -39,8 +39,8 @@ fn begin(
     ensures { lent image.now head.new cards.new extents.new groups.new used.new retired.new ≡ run beginning (lent image.now head.old cards.old extents.old groups.old used.old retired.old) }
 {
     let uuid = [7u8; 16];
-    volume::sangueko_fresh(image, head, cards, extents, groups, used, retired, &uuid, 1);
-    volume::sangueko_enter(
+    let _ = volume::sangueko_fresh(image, head, cards, extents, groups, used, retired, &uuid, 1);
+    let _ = volume::sangueko_enter(
         image,
         head,
         cards,
@@ -68,7 +68,7 @@ fn write_twice(
 {
     let ones = [1u8; 9000];
     let twos = [2u8; 10];
-    volume::sangueko_write(
+    let _ = volume::sangueko_write(
         image,
         head,
         cards,
@@ -82,7 +82,7 @@ fn write_twice(
         SECONDS,
         NANOSECONDS,
     );
-    volume::sangueko_write(
+    let _ = volume::sangueko_write(
         image,
         head,
         cards,
@@ -110,7 +110,7 @@ fn grow_twice(
 )
     ensures { lent image.new head.new cards.new extents.new groups.new used.new retired.new ≡ run grows (lent image.old head.old cards.old extents.old groups.old used.old retired.old) }
 {
-    volume::sangueko_grow(
+    let _ = volume::sangueko_grow(
         image,
         head,
         cards,
@@ -123,8 +123,8 @@ fn grow_twice(
         SECONDS,
         NANOSECONDS,
     );
-    volume::sangueko_settle(image, head, cards, extents, groups, used, retired);
-    volume::sangueko_grow(
+    let _ = volume::sangueko_settle(image, head, cards, extents, groups, used, retired);
+    let _ = volume::sangueko_grow(
         image,
         head,
         cards,
@@ -156,27 +156,17 @@ fn lay_out(
     grow_twice(image, head, cards, extents, groups, used, retired);
 }
 
-// A number and what stands after it.
-fn print_number(rt: &impl Print, n: u64, end: &str) -> io::Result<()> {
-    print!(rt; "{n}{end}")
-}
-
 // A line of an extent's numbers.
 fn print_extent(rt: &impl Print, e: Extent) -> io::Result<()> {
-    print_number(rt, e.object, " ")?;
-    print_number(rt, e.logical, " ")?;
-    print_number(rt, e.physical, " ")?;
-    print_number(rt, e.count as u64, "\n")
+    println!(rt; "{} {} {} {}", e.object, e.logical, e.physical, e.count)
 }
 
 // A line for each extent of a book of `n`.
 fn print_extents(rt: &impl Print, extents: &[u8], n: usize) -> io::Result<()>
     requires { n * extent_bytes ≤ length extents.now }
 {
-    let mut i: usize = 0;
-    while i < n {
+    for i in 0..n {
         print_extent(rt, format::extent::decode_extent(extents, i * EXTENT_BYTES))?;
-        i += 1;
     }
     Ok(())
 }
