@@ -87,8 +87,7 @@ fn write_all(
     let n = list.len() / TRIPLE_BYTES;
     let mut again = false;
     let mut at: usize = 0;
-    let mut i: usize = 0;
-    while i < n {
+    for i in 0..n {
         let t = triples::triple_at(list, i);
         let end = at + t.len as usize;
         let number = write_next(
@@ -108,7 +107,6 @@ fn write_all(
         }
         again = shared;
         at = end;
-        i += 1;
     }
     Done {
         number: 0,

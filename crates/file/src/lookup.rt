@@ -16,13 +16,11 @@ pub fn unit_blocks(extents: &[u8], n: usize, object: u64, units: &[u64], old: &m
     requires len { length old.old ≡ unit_blocks * length units.now }
     ensures { EachBlock (mapping (extents_in n extents.now) object) (length units.now) units.now old.new }
 {
-    let mut j: usize = 0;
-    while j < units.len() {
-        let first = units[j] * UNIT_BLOCKS as u64;
+    for (j, unit) in units.iter().enumerate() {
+        let first = *unit * UNIT_BLOCKS as u64;
         let from = UNIT_BLOCKS * j;
         let end = from + UNIT_BLOCKS;
         mapping::extents::map_blocks(extents, n, object, first, &mut old[from..end]);
-        j += 1;
     }
 }
 
@@ -33,11 +31,8 @@ pub fn unit_checksums(groups: &[u8], n: usize, object: u64, units: &[u64], slots
     requires slots_len { length slots.old ≡ length units.now }
     ensures { EachUnit (slot_of (decode_book decode_group group_bytes n groups.now) object) (length units.now) units.now slots.new }
 {
-    let mut j: usize = 0;
-    while j < units.len() {
-        let unit = units[j];
+    for (j, unit) in units.iter().enumerate() {
         let end = j + 1;
-        mapping::slots::unit_slots(groups, n, object, unit, &mut slots[j..end]);
-        j += 1;
+        mapping::slots::unit_slots(groups, n, object, *unit, &mut slots[j..end]);
     }
 }

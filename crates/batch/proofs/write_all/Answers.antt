@@ -20,9 +20,6 @@ write_next-number-requires c = let v = c.loop-i.invariant.2 in record { tested =
 pub returns-then-number-ne0-clause-done : goal.returns-then-number-ne0-clause-done
 returns-then-number-ne0-clause-done c = between-stopped _ _ _ _ _ _ _ _ _ _ _ refl c.loop-i.invariant.2 _ c.loop-i-test.true c.triple_at-t.ensures _ _ c.write_next-number.ensures.done c.if-number-ne0.true
 
-pub overflow_add-i : goal.overflow_add-i
-overflow_add-i c = record { fits = omega (arith, c.loop-i-test.true, c.requires.triple_bytes_len_bound) }
-
 pub loop-i-preserved : goal.loop-i-preserved
 loop-i-preserved c =
     let v = c.loop-i.invariant in

@@ -1,7 +1,7 @@
 -- `file::lookup::unit_blocks` meets its contract. The loop keeps: the blocks of the units so far are looked up.
 -- Assumes nothing.
 use mathlib.Core.Path.{◌≡◌}
-use Prim.Native.Nat.{◌-◌, ◌≤◌}
+use Prim.Native.Nat.{◌≤◌}
 use lib.ListN.{length}
 use Rattle.rules.specs.Extent.{mapping}
 use Rattle.mapping.specs.Entries.{extents_in}
@@ -11,6 +11,3 @@ use Rattle.file.proofs.lookup.unit_blocks.Given as goal
 abbrev pub invariant-loop-j : goal.invariant-loop-j
 invariant-loop-j l =
     (l.j ≤ length l.units) × (length l.old ≡ length l.initial.old) × EachBlock (mapping (extents_in l.n l.extents) l.object) l.j l.units l.old
-
-abbrev pub decreases-loop-j : goal.decreases-loop-j
-decreases-loop-j l = length l.units - l.j
