@@ -149,17 +149,6 @@ module _ (map : List ℕ) (p w : ℕ) (e : w ≡ le (part (p / 8) 8 map)) (a : p
 pub passed_none : (map : List ℕ) (n a e : ℕ) → a ≤ e → Passed map n a e a
 passed_none map n a e l = record { least = omega arith; most = l; before = λ b p q r. absurd (omega arith) }
 
--- passed over in two parts
-passed-passed : (map : List ℕ) (n a e p q : ℕ) → Passed map n a e p → Passed map n p e q → Passed map n a e q
-passed-passed map n a e p q s t =
-    let l : a ≤ p = s.least in
-    let m : p ≤ q = t.least in
-    record { least = omega arith; most = t.most; before = λ b u v w. go b u v w (dec_lt b p) }
-  where
-    go : (b : ℕ) → a ≤ b → b < q → b + n ≤ e → Dec (b < p) → all (clear map) (range b n) ≡ false
-    go b u v w (yes l) = s.before b u l w
-    go b u v w (no l) = t.before b (omega arith) v w
-
 -- more are passed over
 passed_on : (map : List ℕ) (n a e p q : ℕ) → Passed map n a e p → p ≤ q → q ≤ e → ((b : ℕ) → p ≤ b → b < q → b + n ≤ e → all (clear map) (range b n) ≡ false) → Passed map n a e q
 passed_on map n a e p q s l m h =
