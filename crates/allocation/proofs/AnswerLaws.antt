@@ -4,12 +4,12 @@ use mathlib.Core.Path.{◌≡◌, refl, sym, ap, ◌∙◌}
 use mathlib.Core.List.{List, [], ◌∷◌, ◌++◌, flat_map, get_last?, append_assoc, append-nil}
 use mathlib.Core.Bool.{Bool, true, false, not, ◌&&◌, ◌||◌, or-false}
 use mathlib.Core.Option.{Option, none, some}
-use Prim.Native.Nat.{ℕ, suc, ◌+◌, ◌-◌, ◌/◌, ◌%◌, ◌≤◌, ◌<◌}
+use Prim.Native.Nat.{ℕ, suc, ◌+◌, ◌-◌, ◌/◌, ◌%◌, ◌≤◌, ◌<◌, max}
 use native.Mathlib.Numerals.{add-one}
 use native.Mathlib.Omega.{arith}
 use lib.Dec.{eqb, ltb, leb}
 use lib.ListN.{length, take, drop, get_or, set, length-set}
-use lib.Seq.{get_or-take, length-take-le, drop-cons, drop-length, get_or-set_same, get_or-set_other}
+use lib.Seq.{get_or-take, drop-cons, drop-length, get_or-set_same, get_or-set_other}
 use borrow.Author.Tests.{eqb-true, eqb-false, eq-eqb, ne_eqb, ltb-true, ltb-false, lt-ltb, le-ltb, le-leb, lt-leb}
 use Rattle.rules.specs.Lists.{maybe, range, filter, insert, member}
 use Rattle.rules.specs.Sizes.{group_blocks}
@@ -17,13 +17,16 @@ use Rattle.rules.specs.Allocation.{allocation_groups, group_start, group_end, hi
 use Rattle.rules.proofs.ListLaws.{test-cases, clash, order-cases, if-true, if-false, if-cases, and_right, or_cases, or_left, or_right, member-append, maybe-some, maybe-none, maybe-cases, Each, each_none, each_more, each_weaken, each_append, each-insert, each_at}
 use Rattle.rules.proofs.CountLaws.{filter-each, member-cons, member-nil, member_filter, member-take, each_member, member-each, each-range}
 use Rattle.rules.proofs.AllocationLaws.{highest-in, highest-le, highest-none, highest-of, hint_after-last, hint_after-none, first_run-within, each-allocate_data, too_few-allocate_data}
+use Rattle.std.specs.Prelude.{Some, None, MatchOption}
+use Rattle.std.specs.Prelude as std
+use Rattle.std.specs.Slice.{IsGetResult}
+use denote.Ref.{Bor}
 use Rattle.runs.specs.Runs.{clear}
-use Rattle.allocation.specs.Search.{clear_bits, inserts, start_at, group_bits, bits_from, found_bits, chosen_bits, held, Room, Within, Collected, Sorted, Chosen}
+use Rattle.allocation.specs.Search.{clear_bits, inserts, start_at, group_bits, bits_from, found_bits, chosen_bits, held, Room, Within, EachBelow, Collected, Sorted, Chosen}
 use Rattle.allocation.specs.Carried.{past_highest, Carried, above, raised, raised_all, Answered, Allocates}
-use Rattle.allocation.specs.declared.Taken.{Taken}
+use Rattle.allocation.specs.declared.taken.Taken.{Taken}
 use Rattle.allocation.specs.declared.Allocated.{Allocated}
 use Rattle.allocation.proofs.SearchLaws.{held-count}
-use Rattle.allocation.proofs.RunLaws.{said, said-some, said-none}
 use Rattle.allocation.proofs.FoundLaws.{chosen-allocates}
 
 -- ---- the hint
@@ -36,39 +39,39 @@ last-at (x ∷ y ∷ ys) l =
     let e : length (x ∷ y ∷ ys) - 1 ≡ suc (length (y ∷ ys) - 1) = omega arith in
     last-at (y ∷ ys) (omega arith) ∙ rw e refl
 
--- where no blocks are held the hint stays
-pub hint-stays : (t : Taken) (hint : ℕ) → t.count ≡ 0 → hint ≡ hint_after hint (held t)
-hint-stays t hint e = sym (ap (λ (k : ℕ). hint_after hint (take k t.blocks)) e ∙ hint_after-none hint)
-
--- where some are it is the group of the last
-pub hint-last : (t : Taken) (hint : ℕ) → Room 16 t → (t.count ≡ 0 → ⊥) → get_or t.blocks (t.count - 1) 0 / 16384 ≡ hint_after hint (held t)
-hint-last t hint o d =
-    let e : length (held t) ≡ t.count = held-count 16 t (omega arith) o in
-    let q : get_last? (held t) ≡ some (get_or t.blocks (t.count - 1) 0) =
-    last-at (held t) (omega arith) ∙ ap (λ (x : ℕ). some x) (rw e (get_or-take t.count t.blocks (t.count - 1) 0 (omega arith))) in
-    sym (hint_after-last hint (held t) (get_or t.blocks (t.count - 1) 0) q)
+-- the hint stays where there is no last block, and else is that block's group
+pub hint_is : (blocks : List ℕ) (hint r : ℕ) (o : std.Option (Bor ℕ)) (P : Bor ℕ → Type 0) → IsGetResult blocks 0 (length blocks - 1) o → MatchOption o (r ≡ hint) P → ((b : Bor ℕ) → P b → r ≡ b.now / 16384) → r ≡ hint_after hint blocks
+hint_is [] hint r None P i h f = h ∙ sym (hint_after-none hint)
+hint_is (x ∷ xs) hint r None P i h f = absurd (let l : length (x ∷ xs) ≤ 0 = i.3 in omega arith)
+hint_is blocks hint r (Some b) P i h f = f b h ∙ rw (i.3.1 0) (sym (hint_after-last hint blocks (get_or blocks (length blocks - 1) 0) (last-at blocks i.3.0)))
 
 -- ---- what is past the highest
 
 -- a block that lies below it
-pub above_kept : (past b : ℕ) → b < past → past ≡ above past b
+above_kept : (past b : ℕ) → b < past → past ≡ above past b
 unfolding above
 above_kept past b l = sym (if-true (ltb b past) past (suc b) (lt-ltb b past l))
 
 -- a block that is the highest
-pub above-up : (past b : ℕ) → past ≤ b → b + 1 ≡ above past b
+above-up : (past b : ℕ) → past ≤ b → b + 1 ≡ above past b
 unfolding above
 above-up past b l = add-one b ∙ sym (if-false (ltb b past) past (suc b) (le-ltb b past l))
+
+-- it is the greater
+pub above-max : (past b : ℕ) → max past (b + 1) ≡ above past b
+above-max past b =
+    order-cases (max past (b + 1) ≡ above past b) b past (λ l. let e : max past (b + 1) ≡ past = omega arith in e ∙ above_kept past b l)
+    (λ e. let d : max past (b + 1) ≡ b + 1 = omega arith in d ∙ above-up past b (omega arith)) (λ l. let d : max past (b + 1) ≡ b + 1 = omega arith in d ∙ above-up past b (omega arith))
 
 -- no more than in the array
 raised-places : (past : List ℕ) (b : ℕ) → length (raised past b) ≡ length past
 unfolding raised
 raised-places past b = length-set past (b / group_blocks) (above (get_or past (b / group_blocks) 0) b)
 
--- what is still to be done of the n blocks of an array makes what was to be done
-pub record Raising (past a : List ℕ) (n : ℕ) (p : List ℕ) (i : ℕ) : Type 0 where
-  pub inside : i ≤ n
-  pub rest : raised_all p (drop i (take n a)) ≡ raised_all past (take n a)
+-- what is still to be done of the blocks makes what was to be done
+pub record Raising (past bs p : List ℕ) (i : ℕ) : Type 0 where
+  pub inside : i ≤ length bs
+  pub rest : raised_all p (drop i bs) ≡ raised_all past bs
 
 -- none, and one more
 raised_all-cons : (past : List ℕ) (b : ℕ) (bs : List ℕ) → raised_all past (b ∷ bs) ≡ raised_all (raised past b) bs
@@ -79,30 +82,27 @@ raised_all-nil : (past : List ℕ) → raised_all past [] ≡ past
 unfolding raised_all
 raised_all-nil past = refl
 
-module _ (past a : List ℕ) (n : ℕ) where
+module _ (past bs : List ℕ) where
   -- at first
-  pub raising-none : Raising past a n past 0
+  pub raising-none : Raising past bs past 0
   raising-none = record { inside = omega arith; rest = refl }
 
   -- one more
-  pub raising-more : (p : List ℕ) (i v : ℕ) → n ≤ 16 → length a ≡ 16 → Raising past a n p i → i < n → v ≡ above (get_or p (get_or a i 0 / 16384) 0) (get_or a i 0) → Raising past a n (set p (get_or a i 0 / 16384) v) (i + 1)
-  raising-more p i v o w s l e =
-      let u : set p (get_or a i 0 / 16384) v ≡ raised p (get_or a i 0) = unfold raised in rw e refl in
-      let m : length (take n a) ≡ n = length-take-le n a (omega arith) in
-      let d : drop i (take n a) ≡ get_or a i 0 ∷ drop (suc i) (take n a) =
-      drop-cons (take n a) i 0 (omega arith) ∙ ap (λ (x : ℕ). x ∷ drop (suc i) (take n a)) (get_or-take n a i 0 l) in
+  pub raising-more : (p : List ℕ) (i v : ℕ) → Raising past bs p i → i < length bs → v ≡ above (get_or p (get_or bs i 0 / 16384) 0) (get_or bs i 0) → Raising past bs (set p (get_or bs i 0 / 16384) v) (i + 1)
+  raising-more p i v s l e =
+      let u : set p (get_or bs i 0 / 16384) v ≡ raised p (get_or bs i 0) = unfold raised in rw e refl in
+      let d : drop i bs ≡ get_or bs i 0 ∷ drop (suc i) bs = drop-cons bs i 0 l in
       record {
         inside = omega arith;
-        rest = rw (add-one i, u) (sym (ap (raised_all p) d ∙ raised_all-cons p (get_or a i 0) (drop (suc i) (take n a))) ∙ s.rest);
+        rest = rw (add-one i, u) (sym (ap (raised_all p) d ∙ raised_all-cons p (get_or bs i 0) (drop (suc i) bs)) ∙ s.rest);
       }
 
   -- all
-  pub raising-all : (p : List ℕ) (i : ℕ) → n ≤ 16 → length a ≡ 16 → Raising past a n p i → n ≤ i → p ≡ raised_all past (take n a)
-  raising-all p i o w s l =
-      let m : length (take n a) ≡ n = length-take-le n a (omega arith) in
-      let k : i ≤ n = s.inside in
-      let e : i ≡ length (take n a) = omega arith in
-      let z : drop i (take n a) ≡ [] = rw e (drop-length (take n a)) in
+  pub raising-all : (p : List ℕ) (i : ℕ) → Raising past bs p i → length bs ≤ i → p ≡ raised_all past bs
+  raising-all p i s l =
+      let k : i ≤ length bs = s.inside in
+      let e : i ≡ length bs = omega arith in
+      let z : drop i bs ≡ [] = rw e (drop-length bs) in
       sym (ap (raised_all p) z ∙ raised_all-nil p) ∙ s.rest
 
 -- ---- the highest after one more block
@@ -269,15 +269,11 @@ unfolding inserts
 each-inserts P {ys} h each_none = h
 each-inserts P {ys} h (each_more {x = z} p r) = each-inserts P {ys = insert ltb z ys} (each-insert ltb z ys p h) r
 
--- the blocks found have room
-pub collected-room : (want : ℕ) (ys zs : List ℕ) (t : Taken) → want ≤ 16 → Collected want ys zs t → Room 16 t
-collected-room want ys zs t w c = let f : t.count ≤ want = c.room.fits in record { fits = omega arith; places = c.room.places }
-
 -- blocks of which each is below a bound
-within-each : (bound want : ℕ) (t : Taken) → want ≤ 16 → Room want t → Each (λ b. b < bound) (held t) → Within bound t
-within-each bound want t w o h =
+within-each : (bound : ℕ) (t : Taken) → Each (λ b. b < bound) (held t) → Within bound t
+within-each bound t h =
     record {
-      each = λ i l. let e : length (held t) ≡ t.count = held-count want t w o in
+      each = λ i l. let e : length (held t) ≡ t.count = held-count t in
           let m : get_or (held t) i 0 < bound = each_at h i 0 (omega arith) in
           let q : get_or (held t) i 0 ≡ get_or t.blocks i 0 = get_or-take t.count t.blocks i 0 l in
           omega arith;
@@ -294,34 +290,31 @@ found-chosen map blocks hint past want f t w c o =
     let r : Room want t = record { fits = omega arith; places = o.places } in
     let d : held t ≡ inserts [] (take want bits) = o.list ∙ ap (inserts []) c.list in
     let h : Each P (held t) = rw d (each-inserts P each_none (each_member P (take want bits) (λ b m. member-each P (each-bits_from map blocks hint past 0) b (member-take b want bits m)))) in
-    record { list = d; room = r; within = within-each blocks want t w r h }
+    record { list = d; room = r; within = within-each blocks t h }
 
 -- where there is a run its blocks are chosen
-pub run-chosen : (map : List ℕ) (blocks hint : ℕ) (past : List ℕ) (want b : ℕ) (t : Taken) → want ≤ 16 → b ≡ said blocks (first_run blocks (clear map) want hint) → b < blocks → held t ≡ range b want → Room want t
+pub run-chosen : (map : List ℕ) (blocks hint : ℕ) (past : List ℕ) (want b : ℕ) (t : Taken) → want ≤ 16 → first_run blocks (clear map) want hint ≡ some b → held t ≡ range b want → Room want t
     → Chosen want blocks (chosen_bits map blocks hint past want) t
 unfolding chosen_bits
-run-chosen map blocks hint past want b t w e l d o =
-    let s : first_run blocks (clear map) want hint ≡ some b = said-some blocks b (first_run blocks (clear map) want hint) e l in
+run-chosen map blocks hint past want b t w s d o =
     let m : b + want ≤ blocks = first_run-within blocks (clear map) want hint b s in
     let h : Each (λ x. x < blocks) (held t) = rw d (each_weaken {P = λ x. (b ≤ x) × (x < b + want)} (λ x q. omega arith) (each-range b want)) in
     record {
       list = d ∙ sym (maybe-some (found_bits map blocks hint past want) (λ x. range x want) (first_run blocks (clear map) want hint) b s);
       room = o;
-      within = within-each blocks want t w o h;
+      within = within-each blocks t h;
     }
 
 -- its blocks lie in the store
-pub run-within : (map : List ℕ) (blocks hint want b : ℕ) → b ≡ said blocks (first_run blocks (clear map) want hint) → b < blocks → b + want ≤ blocks
-run-within map blocks hint want b e l = first_run-within blocks (clear map) want hint b (said-some blocks b (first_run blocks (clear map) want hint) e l)
+pub run-within : (map : List ℕ) (blocks hint want b : ℕ) → first_run blocks (clear map) want hint ≡ some b → b + want ≤ blocks
+run-within map blocks hint want b s = first_run-within blocks (clear map) want hint b s
 
 -- where there is none those that the search finds first are
-pub found-instead : (map : List ℕ) (blocks hint : ℕ) (past : List ℕ) (want b : ℕ) (t : Taken) → 0 < want → b ≡ said blocks (first_run blocks (clear map) want hint) → blocks ≤ b → Chosen want blocks (found_bits map blocks hint past want) t
+pub found-instead : (map : List ℕ) (blocks hint : ℕ) (past : List ℕ) (want : ℕ) (t : Taken) → first_run blocks (clear map) want hint ≡ none → Chosen want blocks (found_bits map blocks hint past want) t
     → Chosen want blocks (chosen_bits map blocks hint past want) t
 unfolding chosen_bits
-found-instead map blocks hint past want b t o e l c =
-    let run : Option ℕ = first_run blocks (clear map) want hint in
-    let s : first_run blocks (clear map) want hint ≡ none = said-none blocks b run e l (λ x f. let m : x + want ≤ blocks = first_run-within blocks (clear map) want hint x f in omega arith) in
-    record { list = c.list ∙ sym (maybe-none (found_bits map blocks hint past want) (λ x. range x want) run s); room = c.room; within = c.within }
+found-instead map blocks hint past want t s c =
+    record { list = c.list ∙ sym (maybe-none (found_bits map blocks hint past want) (λ x. range x want) (first_run blocks (clear map) want hint) s); room = c.room; within = c.within }
 
 -- and where no block is wanted there is none
 pub none-chosen : (map : List ℕ) (blocks hint : ℕ) (past : List ℕ) (want : ℕ) (t : Taken) → want ≡ 0 → Room 0 t → Chosen want blocks (chosen_bits map blocks hint past want) t
@@ -339,9 +332,11 @@ none-chosen map blocks hint past want t e o =
         unfold chosen_bits found_bits inserts range in
         maybe-cases (λ (bs : List ℕ). bs ≡ []) (found_bits map blocks hint past 0) (λ b. range b 0) (first_run blocks (clear map) 0 hint) (λ f. refl) (λ b f. refl)
 
--- the blocks chosen have room
-pub chosen-room : (want blocks : ℕ) (bs : List ℕ) (t : Taken) → want ≤ 16 → Chosen want blocks bs t → Room 16 t
-chosen-room want blocks bs t w c = let f : t.count ≤ want = c.room.fits in record { fits = omega arith; places = c.room.places }
+-- the blocks that are held are below it
+pub within_held : (bound : ℕ) (t : Taken) → Within bound t → EachBelow bound (held t)
+within_held bound t w i h =
+    let e : length (held t) ≡ t.count = held-count t in
+    rw (get_or-take t.count t.blocks i 0 (omega arith)) (w.each i (omega arith))
 
 -- a bound that is no less serves too
 pub within_more : (a b : ℕ) (t : Taken) → Within a t → a ≤ b → Within b t
@@ -357,15 +352,15 @@ leb-not a b =
 
 -- the answer is the one of the rules
 pub allocates : (map : List ℕ) (blocks hint : ℕ) (past : List ℕ) (want : ℕ) (t : Taken) (r : Allocated) → blocks ≤ 65536 → want ≤ 16
-    → Chosen want blocks (chosen_bits map blocks hint past want) t → Answered t hint past want r
+    → Chosen want blocks (chosen_bits map blocks hint past want) t → Answered t hint past r
     → (used : ℕ → Bool) (taken : List ℕ) → Carried blocks used taken map past → Allocates blocks used hint taken want r
 allocates map blocks hint past want t r m w c a used taken k =
     let new : List ℕ = allocate_data blocks used hint taken want in
     let d : held t ≡ new = c.list ∙ chosen-allocates blocks used hint taken map past want k in
-    let n : t.count ≡ length new = sym (held-count want t w c.room) ∙ ap length d in
+    let n : t.count ≡ length new = sym (held-count t) ∙ ap length d in
     let each : Each (λ b. b < blocks) new = each_weaken (λ b h. h.0) (each-allocate_data blocks used hint taken want) in
     record {
-      enough = a.enough ∙ ap (leb want) n ∙ leb-not want (length new) ∙ ap not (sym (too_few-allocate_data blocks used hint taken want));
+      enough = ap (λ (x : Taken). leb want x.count) a.given ∙ ap (leb want) n ∙ leb-not want (length new) ∙ ap not (sym (too_few-allocate_data blocks used hint taken want));
       count = ap (λ (x : Taken). x.count) a.given ∙ n;
       given = ap (λ (x : Taken). held x) a.given ∙ d;
       hinted = a.hinted ∙ ap (hint_after hint) d;
@@ -374,5 +369,5 @@ allocates map blocks hint past want t r m w c a used taken k =
     }
 
 -- its blocks have room and lie in the store
-pub answered-within : (want blocks hint : ℕ) (bs past : List ℕ) (t : Taken) (r : Allocated) → want ≤ 16 → Chosen want blocks bs t → Answered t hint past want r → Room 16 r.taken × Within blocks r.taken
-answered-within want blocks hint bs past t r w c a = rw a.given (chosen-room want blocks bs t w c, c.within)
+pub answered-within : (want blocks hint : ℕ) (bs past : List ℕ) (t : Taken) (r : Allocated) → Chosen want blocks bs t → Answered t hint past r → Room 16 r.taken × Within blocks r.taken
+answered-within want blocks hint bs past t r c a = (record { fits = r.taken.fits; places = r.taken.places }, rw a.given c.within)

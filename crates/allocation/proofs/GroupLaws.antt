@@ -3,19 +3,20 @@
 use mathlib.Core.Path.{◌≡◌, refl, sym, ap, ◌∙◌}
 use mathlib.Core.List.{List, [], ◌++◌, flat_map, append_assoc, append-nil}
 use mathlib.Core.Bool.{◌&&◌, and-false}
-use Prim.Native.Nat.{ℕ, ◌+◌, ◌-◌, ◌*◌, ◌/◌, ◌%◌, ◌≤◌, ◌<◌, min}
+use Prim.Native.Nat.{ℕ, ◌+◌, ◌-◌, ◌*◌, ◌%◌, ◌≤◌, ◌<◌, min}
 use native.Mathlib.Numerals.{add-one}
 use native.Mathlib.Omega.{arith}
+use Rattle.std.specs.Int.{div_ceil}
 use lib.Dec.{ltb}
 use lib.ListN.{length, get_or, take}
-use lib.Seq.{take_at, take_all, length-take-le}
+use lib.Seq.{take_all}
 use borrow.Author.Tests.{lt-ltb, le-ltb}
 use Rattle.rules.specs.Allocation.{allocation_groups, group_start, group_end}
 use Rattle.rules.proofs.ListLaws.{if-true, if-false, and_intro}
 use Rattle.rules.proofs.CountLaws.{range-first, range_none}
 use Rattle.allocation.specs.Search.{clear_bits, start_at, group_bits, bits_from, held, Room, Collected}
-use Rattle.allocation.specs.declared.Taken.{Taken}
-use Rattle.allocation.proofs.SearchLaws.{take_again}
+use Rattle.allocation.specs.declared.taken.Taken.{Taken}
+use Rattle.allocation.proofs.SearchLaws.{take_again, held-count}
 
 -- ---- where the search starts
 
@@ -36,18 +37,14 @@ start-inside start end past l m = sym (if-true (ltb start past && ltb past end) 
 -- ---- groups
 
 -- the number of groups
-pub groups_is : (blocks : ℕ) → (blocks + 16383) / 16384 ≡ allocation_groups blocks
+pub groups_is : (blocks : ℕ) → div_ceil blocks 16384 ≡ allocation_groups blocks
 unfolding allocation_groups
-groups_is blocks = refl
+groups_is blocks = omega arith
 
 -- a group begins below the end of the store
 pub group-start : (blocks g : ℕ) → g < allocation_groups blocks → g * 16384 < blocks
 unfolding allocation_groups
 group-start blocks g l = omega arith
-
--- no blocks are held
-pub room-none : (t : Taken) → t.count ≡ 0 → length t.blocks ≡ 16 → Room 0 t
-room-none t e l = record { fits = omega arith; places = l }
 
 -- the blocks of two runs, one after the other
 pub collected-runs : (want : ℕ) (ys zs ws : List ℕ) (r s : Taken) → Collected want ys zs r → Collected want (held r) ws s → Collected want ys (zs ++ ws) s
@@ -103,20 +100,11 @@ module _ (map : List ℕ) (blocks hint : ℕ) (past : List ℕ) (want : ℕ) whe
         rest = rw c.list (take_again want (held t ++ bits) later) ∙ ap (take want) (append_assoc (held t) bits later ∙ ap (λ (v : List ℕ). held t ++ v) (sym n)) ∙ s.rest;
       }
 
-  -- as many as wanted
-  pub grouping-full : (t : Taken) (i : ℕ) → want ≤ 16 → Grouping map blocks hint past want t i → want ≤ t.count → Collected want [] (bits_from map blocks hint past 0) t
-  grouping-full t i w s l =
-      let f : t.count ≤ want = s.room.fits in
-      let p : length t.blocks ≡ 16 = s.room.places in
-      let e : length (held t) ≡ t.count = length-take-le t.count t.blocks (omega arith) in
-      record { list = sym (take_at (held t) (bits_from map blocks hint past i) want (omega arith)) ∙ s.rest; room = s.room }
-
   -- all groups
-  pub grouping-all : (t : Taken) (i groups : ℕ) → want ≤ 16 → Grouping map blocks hint past want t i → groups ≡ allocation_groups blocks → groups ≤ i → Collected want [] (bits_from map blocks hint past 0) t
-  grouping-all t i groups w s e l =
+  pub grouping-all : (t : Taken) (i groups : ℕ) → Grouping map blocks hint past want t i → groups ≡ allocation_groups blocks → groups ≤ i → Collected want [] (bits_from map blocks hint past 0) t
+  grouping-all t i groups s e l =
       let f : t.count ≤ want = s.room.fits in
-      let p : length t.blocks ≡ 16 = s.room.places in
-      let q : length (held t) ≡ t.count = length-take-le t.count t.blocks (omega arith) in
+      let q : length (held t) ≡ t.count = held-count t in
       record {
         list = sym (ap (λ (v : List ℕ). take want (held t ++ v)) nothing ∙ ap (take want) (append-nil (held t)) ∙ take_all want (held t) (omega arith)) ∙ s.rest;
         room = s.room;

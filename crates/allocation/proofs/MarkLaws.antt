@@ -23,8 +23,8 @@ use Rattle.allocation.specs.Carried.{past_highest, Carried, Allocates, Marked}
 use Rattle.allocation.specs.declared.Allocated.{Allocated}
 
 -- no block is set
-pub marked-none : (map a : List ℕ) → Marked map (take 0 a) map
-marked-none map a = record { places = refl; bits = λ b l. sym (ap (λ (t : Bool). bit_set map b || t) (member-nil b) ∙ or-false (bit_set map b)) }
+pub marked-none : (map bs : List ℕ) → Marked map (take 0 bs) map
+marked-none map bs = record { places = refl; bits = λ b l. sym (ap (λ (t : Bool). bit_set map b || t) (member-nil b) ∙ or-false (bit_set map b)) }
 
 -- one more is set
 pub marked_more : (map after next a : List ℕ) (i : ℕ) → i < length a → get_or a i 0 < 8 * length map → Marked map (take i a) after → next ≡ with_bits true after (get_or a i 0) (get_or a i 0 + 1) → Marked map (take (i + 1) a) next

@@ -6,7 +6,7 @@ use Rattle.rules.specs.Bytes.{bit_set}
 use Rattle.rules.specs.Sizes.{group_blocks}
 use Rattle.rules.specs.Allocation.{allocation_groups, highest, too_few, allocate_data, hint_after}
 use Rattle.allocation.specs.Search.{held}
-use Rattle.allocation.specs.declared.Taken.{Taken}
+use Rattle.allocation.specs.declared.taken.Taken.{Taken}
 use Rattle.allocation.specs.declared.Allocated.{Allocated}
 
 -- what is past the highest block taken in a group; 0 where none was
@@ -37,16 +37,15 @@ unfoldable pub raised_all : List ℕ → List ℕ → List ℕ
 raised_all past [] = past
 raised_all past (b ∷ bs) = raised_all (raised past b) bs
 
--- the answer with these blocks: whether they are as many as wanted, and the hint and the cursors after them
-pub record Answered (t : Taken) (hint : ℕ) (past : List ℕ) (want : ℕ) (r : Allocated) : Type 0 where
+-- the answer with these blocks: the hint and the cursors after them
+pub record Answered (t : Taken) (hint : ℕ) (past : List ℕ) (r : Allocated) : Type 0 where
   pub given : r.taken ≡ t
-  pub enough : r.enough ≡ leb want t.count
   pub hinted : r.hint ≡ hint_after hint (held t)
   pub raised : r.cursors.past ≡ raised_all past (held t)
 
 -- the answer is the one of the rules: the blocks, whether they are as many as wanted, the hint, and what the next unit is to be asked with
 pub record Allocates (blocks : ℕ) (used : ℕ → Bool) (hint : ℕ) (taken : List ℕ) (want : ℕ) (r : Allocated) : Type 0 where
-  pub enough : r.enough ≡ not (too_few blocks used taken want)
+  pub enough : leb want r.taken.count ≡ not (too_few blocks used taken want)
   pub count : r.taken.count ≡ length (allocate_data blocks used hint taken want)
   pub given : held r.taken ≡ allocate_data blocks used hint taken want
   pub hinted : r.hint ≡ hint_after hint (allocate_data blocks used hint taken want)

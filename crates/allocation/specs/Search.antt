@@ -1,13 +1,23 @@
 -- The search for clear bits: what a run of the map adds to the blocks taken so far.
 -- Assumes nothing.
-use Rattle.std.specs.Prelude.{◌≡◌, true, ◌&&◌, ℕ, ◌+◌, ◌-◌, ◌%◌, ◌≤◌, ◌<◌, ltb, length, take, get_or}
+use Rattle.std.specs.Prelude.{◌≡◌, true, ◌&&◌, ℕ, ◌+◌, ◌-◌, ◌*◌, ◌%◌, ◌≤◌, ◌<◌, ltb, length, take, get_or, MatchOption}
+use Rattle.std.specs.Prelude as std
+use Rattle.std.proofs.Math.Option.{Option, none, some}
 use mathlib.Core.List.{List, [], ◌∷◌, ◌++◌, flat_map}
-use Rattle.rules.specs.Sizes.{unit_blocks}
+use Rattle.rules.specs.Sizes.{unit_blocks, most_blocks}
 use Rattle.rules.specs.Lists.{pick◌then◌else◌, maybe, range, filter, insert}
 use Rattle.rules.specs.Bytes.{bit_set}
 use Rattle.rules.specs.Allocation.{allocation_groups, group_start, group_end, first_run}
 use Rattle.runs.specs.Runs.{clear}
-use Rattle.allocation.specs.declared.Taken.{Taken}
+use Rattle.allocation.specs.declared.taken.Taken.{Taken}
+
+-- a map of a device's blocks, of which there are at most as many as a store has
+abbrev pub OnMap : ℕ → List ℕ → Type 0
+OnMap blocks map = (blocks ≤ most_blocks) × (blocks ≤ 8 * length map)
+
+-- an answer of the code is the one of the rules
+abbrev pub Says : std.Option ℕ → Option ℕ → Type 0
+Says r o = MatchOption r (o ≡ none) (λ b. o ≡ some b)
 
 -- the clear bits from one place on and before another
 unfoldable pub clear_bits : List ℕ → ℕ → ℕ → List ℕ
@@ -62,16 +72,14 @@ pub record Room (most : ℕ) (t : Taken) : Type 0 where
 pub record Within (bound : ℕ) (t : Taken) : Type 0 where
   pub each : (i : ℕ) → i < t.count → get_or t.blocks i 0 < bound
 
+-- each number of a list is below a bound
+abbrev pub EachBelow : ℕ → List ℕ → Type 0
+EachBelow bound xs = (i : ℕ) → i < length xs → get_or xs i 0 < bound
+
 -- those that were held and then the others, as many as wanted
 pub record Collected (want : ℕ) (ys zs : List ℕ) (r : Taken) : Type 0 where
   pub list : held r ≡ take want (ys ++ zs)
   pub room : Room want r
-
--- those that were held, and one more at its place
-pub record Inserted (b : ℕ) (t r : Taken) : Type 0 where
-  pub list : held r ≡ insert ltb b (held t)
-  pub count : r.count ≡ t.count + 1
-  pub places : length r.blocks ≡ unit_blocks
 
 -- those that were held, ascending
 pub record Sorted (t r : Taken) : Type 0 where

@@ -1,6 +1,7 @@
 -- Laws of runs of clear bits: where they begin in a word, and that no place at which one begins is passed over.
 -- Assumes nothing.
-use Rattle.std.proofs.Common.{◌≡◌, ℕ, zero, suc, ◌+◌, ◌-◌, ◌*◌, ◌/◌, ◌%◌, ◌^◌, ◌<◌, ◌≤◌, Bool, true, false, not, ◌&&◌, ◌||◌, eqb, List, get_or, sym, refl, ap, ◌∙◌, add-one, arith, pow_mono, shr-shr, eq-eqb, ne_eqb}
+use Rattle.std.proofs.Common.{◌≡◌, ℕ, zero, suc, ◌+◌, ◌-◌, ◌*◌, ◌/◌, ◌%◌, ◌^◌, ◌<◌, ◌≤◌, Bool, true, false, not, ◌&&◌, ◌||◌, eqb, List, [], ◌∷◌, get_or, sym, refl, ap, ◌∙◌, add-one, arith, pow_mono, shr-shr, eq-eqb, ne_eqb}
+use Rattle.std.specs.Int.{from_le_bytes, w16}
 use mathlib.Core.Bool.{and-false}
 use native.Mathlib.Nat.{div-eq_of_lt}
 use native.Mathlib.Decide.{dec_lt}
@@ -14,7 +15,7 @@ use Rattle.rules.proofs.CountLaws.{same_test}
 use Rattle.bitmap.specs.Map.{bit_of, First}
 use Rattle.bitmap.proofs.BitLaws.{bit-low, bit-half, bit-zero, bit-or, bit-and, bit_not, bit-alike, bit_below, bit-above, bits-same, first_some}
 use Rattle.bitmap.proofs.MapLaws.{bit_set-is, word-bit}
-use Rattle.runs.specs.Runs.{clear, Starts, PastSet, Half, Meets, AnyMeets, Passed, Lowest}
+use Rattle.runs.specs.Runs.{clear, Starts, Half, Meets, AnyMeets, Passed, LowestAt}
 
 -- ---- where runs begin in a word
 
@@ -148,17 +149,6 @@ module _ (map : List ℕ) (p w : ℕ) (e : w ≡ le (part (p / 8) 8 map)) (a : p
 pub passed_none : (map : List ℕ) (n a e : ℕ) → a ≤ e → Passed map n a e a
 passed_none map n a e l = record { least = omega arith; most = l; before = λ b p q r. absurd (omega arith) }
 
--- the lowest run is sought from there on
-pub lowest-on : (map : List ℕ) (n a e p r : ℕ) → Passed map n a e p → Lowest map n p e r → Lowest map n a e r
-lowest-on map n a e p r s t =
-    let l : a ≤ p = s.least in
-    let m : p ≤ r = t.least in
-    record { least = omega arith; most = t.most; before = λ b u v w. go b u v w (dec_lt b p); found = t.found }
-  where
-    go : (b : ℕ) → a ≤ b → b < r → b + n ≤ e → Dec (b < p) → all (clear map) (range b n) ≡ false
-    go b u v w (yes l) = s.before b u l w
-    go b u v w (no l) = t.before b (omega arith) v w
-
 -- more are passed over
 passed_on : (map : List ℕ) (n a e p q : ℕ) → Passed map n a e p → p ≤ q → q ≤ e → ((b : ℕ) → p ≤ b → b < q → b + n ≤ e → all (clear map) (range b n) ≡ false) → Passed map n a e q
 passed_on map n a e p q s l m h =
@@ -169,63 +159,19 @@ passed_on map n a e p q s l m h =
     go b u v w (yes x) = s.before b u x w
     go b u v w (no x) = h b (omega arith) v w
 
--- a run there is the lowest
-lowest-here : (map : List ℕ) (n a e p : ℕ) → 0 < n → Passed map n a e p → p + n ≤ e → all (clear map) (range p n) ≡ true → Lowest map n a e p
-lowest-here map n a e p o s l h = record { least = s.least; most = s.most; before = s.before; found = λ u. (l, h) }
-
--- and where too few bits are left there is none
-pub lowest-none : (map : List ℕ) (n a e p : ℕ) → Passed map n a e p → e - p < n → Lowest map n a e e
-lowest-none map n a e p s l =
-    let m : p ≤ e = s.most in
-    let o : a ≤ p = s.least in
-    record { least = omega arith; most = omega arith; before = λ b u v w. s.before b u (omega arith) w; found = λ u. absurd (omega arith) }
-
 -- ---- bit by bit
 
--- the bits behind q of a window are clear
-pub record Behind (map : List ℕ) (p n q : ℕ) : Type 0 where
-  pub least : p ≤ q
-  pub most : q ≤ p + n
-  pub behind : (k : ℕ) → q ≤ k → k < p + n → bit_set map k ≡ false
-
--- at first
-pub behind-none : (map : List ℕ) (p n : ℕ) → Behind map p n (p + n)
-behind-none map p n = record { least = omega arith; most = omega arith; behind = λ k l m. absurd (omega arith) }
-
--- one more is clear
-pub behind_more : (map : List ℕ) (p n q : ℕ) (x : Bool) → Behind map p n q → p < q → x ≡ bit_set map (q - 1) → x ≡ false → Behind map p n (q - 1)
-behind_more map p n q x s l e f =
-    let m : q ≤ p + n = s.most in
-    record { least = omega arith; most = omega arith; behind = λ k u v. go k u v (dec_lt k q) }
-  where
-    go : (k : ℕ) → q - 1 ≤ k → k < p + n → Dec (k < q) → bit_set map k ≡ false
-    go k u v (yes y) = ap (bit_set map) (omega arith) ∙ sym e ∙ f
-    go k u v (no y) = s.behind k (omega arith) v
-
--- or it is set
-pub behind-set : (map : List ℕ) (p n q : ℕ) (x : Bool) → Behind map p n q → p < q → x ≡ bit_set map (q - 1) → x ≡ true → PastSet map p n q
-behind-set map p n q x s l e f = record { least = s.least; most = s.most; behind = s.behind; last = λ k u v. ap (bit_set map) (omega arith) ∙ sym e ∙ f }
-
--- none is set
-pub behind-all : (map : List ℕ) (p n q : ℕ) → Behind map p n q → q ≤ p → PastSet map p n p
-behind-all map p n q s l =
-    let m : p ≤ q = s.least in
-    record { least = omega arith; most = omega arith; behind = λ k u v. s.behind k (omega arith) v; last = λ k u v. absurd (omega arith) }
-
 -- a window with no set bit is a run, and the lowest
-pub window-clear : (map : List ℕ) (n a e p q : ℕ) → 0 < n → Passed map n a e p → n ≤ e - p → PastSet map p n q → q ≡ p → Lowest map n a e p
-window-clear map n a e p q o s l h d =
+pub window-clear : (map : List ℕ) (n a e p : ℕ) → Passed map n a e p → n ≤ e - p → ((k : ℕ) → p ≤ k → k < p + n → bit_set map k ≡ false) → LowestAt map n a e p
+window-clear map n a e p s l h =
     let m : p ≤ e = s.most in
-    lowest-here map n a e p o s (omega arith) (all-range-of (clear map) p n (λ i k. clear-is map (p + i) false (h.behind (p + i) (omega arith) (omega arith))))
+    record { passed = s; inside = omega arith; found = all-range-of (clear map) p n (λ i k. clear-is map (p + i) false (h (p + i) (omega arith) (omega arith))) }
 
 -- where it has one, no run begins up to it
-pub window-set : (map : List ℕ) (n a e p q : ℕ) → Passed map n a e p → n ≤ e - p → PastSet map p n q → (q ≡ p → ⊥) → Passed map n a e q
-window-set map n a e p q s l h d =
-    let u : p ≤ q = h.least in
-    let v : q ≤ p + n = h.most in
+pub window-set : (map : List ℕ) (n a e p q : ℕ) → Passed map n a e p → n ≤ e - p → p ≤ q → q < p + n → bit_set map q ≡ true → Passed map n a e (q + 1)
+window-set map n a e p q s l u v h =
     let m : p ≤ e = s.most in
-    passed_on map n a e p q s u (omega arith)
-    (λ b x y z. not-clear map b n (q - 1) (h.last (q - 1) (omega arith) (omega arith)) (omega arith) (omega arith))
+    passed_on map n a e p (q + 1) s (omega arith) (omega arith) (λ b x y z. not-clear map b n q h (omega arith) (omega arith))
 
 -- ---- by words
 
@@ -238,15 +184,17 @@ word-full map n a e p w o s l d z c f =
 
 -- a word in which a run begins
 pub word-run : (map : List ℕ) (n a e p w m t : ℕ) → 0 < n → Passed map n a e p → 64 ≤ e - p → w ≡ le (part (p / 8) 8 map) → p % 8 ≡ 0 → Bytes map → w < 2 ^ 64
-    → Starts w n m → (m ≡ 0 → ⊥) → m < 2 ^ 64 → First m true t → Lowest map n a e (p + t)
+    → Starts w n m → (m ≡ 0 → ⊥) → m < 2 ^ 64 → First m true t → LowestAt map n a e (p + t)
 word-run map n a e p w m t o s l d z c f g h i k =
     let u : p ≤ e = s.most in
     let v : t < 64 = first_some m true 0 t (unfold pick◌then◌else◌ in refl) h i k in
     let r : (t + n ≤ 64) × (all (clear map) (range (p + t) n) ≡ true) = start-yes map p w d z c f n m g t o (k.found v) in
     let x : t + n ≤ 64 = r.0 in
-    lowest-here map n a e (p + t) o
-    (passed_on map n a e p (p + t) s (omega arith) (omega arith) (λ b q y w'. start-no map p w d z c f n m g b q (omega arith) (k.before (b - p) (omega arith))))
-    (omega arith) r.1
+    record {
+      passed = passed_on map n a e p (p + t) s (omega arith) (omega arith) (λ b q y w'. start-no map p w d z c f n m g b q (omega arith) (k.before (b - p) (omega arith)));
+      inside = omega arith;
+      found = r.1;
+    }
 
 -- a word in which none begins
 pub word_none : (map : List ℕ) (n a e p w m : ℕ) → n ≤ 16 → Passed map n a e p → 64 ≤ e - p → w ≡ le (part (p / 8) 8 map) → p % 8 ≡ 0 → Bytes map → w < 2 ^ 64
@@ -299,8 +247,8 @@ meets-zero x z w hx hz hw e =
         go (no a) = rw (p j (omega arith) l) refl
 
 -- two bytes side by side are a half of the map
-pub half-bits : (map : List ℕ) (k r : ℕ) → Bytes map → r ≡ get_or map (2 * k) 0 + 256 * get_or map (2 * k + 1) 0 → Half map k r
-half-bits map k r c e = record { each = λ j l. ap (λ (x : ℕ). bit_of x j) e ∙ go j l (dec_lt j 8) }
+pub half-bits : (map : List ℕ) (k r : ℕ) → Bytes map → r ≡ from_le_bytes w16 (get_or map (2 * k) 0 ∷ get_or map (2 * k + 1) 0 ∷ []) → Half map k r
+half-bits map k r c e = record { each = λ j l. ap (λ (x : ℕ). bit_of x j) (e ∙ omega arith) ∙ go j l (dec_lt j 8) }
   where
     of-byte : (i j : ℕ) → j < 8 → bit_of (get_or map i 0) j ≡ bit_set map (8 * i + j)
     of-byte i j l =
@@ -319,20 +267,16 @@ pub meets-none : (map : List ℕ) (i : ℕ) (r : Bool) → AnyMeets map i i r
 meets-none map i r = record { each = λ k m p q. absurd (omega arith) }
 
 -- one more
-pub meets-more : (map : List ℕ) (i k x z v : ℕ) (r s : Bool) → AnyMeets map i k r → Half map k x → Half map (k + 1) z → Meets x z v → s ≡ (r || eqb v 0) → AnyMeets map i (k + 1) s
-meets-more map i k x z v r s h hx hz a e =
+pub meets-more : (map : List ℕ) (i k x z v : ℕ) (r : Bool) → AnyMeets map i k r → Half map k x → Half map (k + 1) z → Meets x z v → AnyMeets map i (k + 1) (r || eqb v 0)
+meets-more map i k x z v r h hx hz a =
     record {
-      each = λ j n p q u w. e ∙ order-cases ((r || eqb v 0) ≡ true) j k (λ o. or_left r (eqb v 0) (h.each j n p o u w)) (λ o. or_right r (eqb v 0) (this j n o u w)) (λ o. absurd (omega arith));
+      each = λ j n p q u w. order-cases ((r || eqb v 0) ≡ true) j k (λ o. or_left r (eqb v 0) (h.each j n p o u w)) (λ o. or_right r (eqb v 0) (this j n o u w)) (λ o. absurd (omega arith));
     }
   where
     this : (j n : ℕ) → j ≡ k → ((i' : ℕ) → n ≤ i' → i' < 16 → bit_set map (16 * j + i') ≡ false) → ((i' : ℕ) → i' < n → i' < 16 → bit_set map (16 * (j + 1) + i') ≡ false) → eqb v 0 ≡ true
     this j n o u w =
         eq-eqb v 0
         (a.each n (λ i' b c. hx.each i' c ∙ ap (λ (y : ℕ). bit_set map (16 * y + i')) (sym o) ∙ u i' b c) (λ i' b c. hz.each i' c ∙ ap (λ (y : ℕ). bit_set map (16 * (y + 1) + i')) (sym o) ∙ w i' b c))
-
--- all of them
-pub meets-all : (map : List ℕ) (i end k : ℕ) (r : Bool) → AnyMeets map i k r → end ≤ k → AnyMeets map i end r
-meets-all map i end k r h l = record { each = λ j m p q. h.each j m p (omega arith) }
 
 -- where that is so of none of them no sixteen clear bits begin in them
 pub halves-passed : (map : List ℕ) (a e i last : ℕ) (r : Bool) → i ≡ a / 16 → a % 16 ≡ 0 → i ≤ last → 16 * last ≤ e → AnyMeets map i last r → r ≡ false → Passed map 16 a e (16 * last) × (16 * last % 8 ≡ 0)
@@ -350,11 +294,3 @@ halves-passed map a e i last r ei z l m h d = (
     -- a bit of the window is clear
     inside : (b k : ℕ) → all (clear map) (range b 16) ≡ true → b ≤ k → k < b + 16 → bit_set map k ≡ false
     inside b k t p q = not-true (bit_set map k) (unfold clear in ap (clear map) (omega arith) ∙ all-range-at (clear map) b 16 t (k - b) (omega arith))
-
--- nothing is passed over
-pub passed-from : (map : List ℕ) (a e : ℕ) → a ≤ e → a % 16 ≡ 0 → Passed map 16 a e a × (a % 8 ≡ 0)
-passed-from map a e l z = (passed_none map 16 a e l, omega arith)
-
--- the lowest run is sought behind what is passed over
-pub lowest-passed : (map : List ℕ) (n a e p r : ℕ) → n ≡ 16 → Passed map 16 a e p → Lowest map n p e r → Lowest map n a e r
-lowest-passed map n a e p r o s t = lowest-on map n a e p r (rw o s) t

@@ -1,6 +1,6 @@
 -- Runs of clear bits in a map, and the words and bytes by which they are sought.
 -- Assumes nothing.
-use Rattle.std.specs.Prelude.{◌≡◌, ℕ, ◌+◌, ◌-◌, ◌*◌, ◌^◌, ◌<◌, ◌≤◌, Bool, true, false, not, List}
+use Rattle.std.specs.Prelude.{◌≡◌, ℕ, ◌+◌, ◌-◌, ◌*◌, ◌^◌, ◌<◌, ◌≤◌, Bool, true, false, not, List, Option, MatchOption}
 use Rattle.rules.specs.Lists.{all, range}
 use Rattle.rules.specs.Bytes.{bit_set}
 use Rattle.bitmap.specs.Map.{bit_of}
@@ -13,12 +13,11 @@ clear map b = not (bit_set map b)
 pub record Starts (w n r : ℕ) : Type 0 where
   pub each : (j : ℕ) → bit_of r j ≡ all (bit_of (2 ^ 64 - 1 - w)) (range j n)
 
--- r is past the highest set bit of the n from p on, and p where none is set
-pub record PastSet (map : List ℕ) (p n r : ℕ) : Type 0 where
-  pub least : p ≤ r
-  pub most : r ≤ p + n
-  pub behind : (k : ℕ) → r ≤ k → k < p + n → bit_set map k ≡ false
-  pub last : (k : ℕ) → p ≤ k → k + 1 ≡ r → bit_set map k ≡ true
+-- r is the highest set bit from p on and before e, and nothing where none is set
+abbrev pub LastSet : List ℕ → ℕ → ℕ → Option ℕ → Type 0
+LastSet map p e r =
+    MatchOption r ((k : ℕ) → p ≤ k → k < e → bit_set map k ≡ false)
+    (λ q. (p ≤ q) × (q < e) × (bit_set map q ≡ true) × ((k : ℕ) → q < k → k < e → bit_set map k ≡ false))
 
 -- r is the sixteen bits of the map from bit 16 k on
 pub record Half (map : List ℕ) (k r : ℕ) : Type 0 where
@@ -38,9 +37,12 @@ pub record Passed (map : List ℕ) (n a e p : ℕ) : Type 0 where
   pub most : p ≤ e
   pub before : (b : ℕ) → a ≤ b → b < p → b + n ≤ e → all (clear map) (range b n) ≡ false
 
--- r is the first place from a on at which n clear bits begin that end before e, or e where there is none
-pub record Lowest (map : List ℕ) (n a e r : ℕ) : Type 0 where
-  pub least : a ≤ r
-  pub most : r ≤ e
-  pub before : (b : ℕ) → a ≤ b → b < r → b + n ≤ e → all (clear map) (range b n) ≡ false
-  pub found : r < e → (r + n ≤ e) × (all (clear map) (range r n) ≡ true)
+-- n clear bits begin at p that end before e, and none from a on and before p
+pub record LowestAt (map : List ℕ) (n a e p : ℕ) : Type 0 where
+  pub passed : Passed map n a e p
+  pub inside : p + n ≤ e
+  pub found : all (clear map) (range p n) ≡ true
+
+-- r is the first place from a on at which n clear bits begin that end before e, and nothing where there is none
+abbrev pub Lowest : List ℕ → ℕ → ℕ → ℕ → Option ℕ → Type 0
+Lowest map n a e r = MatchOption r (Passed map n a e e) (LowestAt map n a e)

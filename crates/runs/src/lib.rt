@@ -9,7 +9,8 @@
 #![tactic(auto)]
 
 ghost use Rattle.std.specs.Prelude.{◌≡◌, ◌+◌, ◌*◌, ◌/◌, ◌%◌, ◌^◌, ◌<◌, ◌≤◌, ◌||◌, length};
-ghost use Rattle.runs.specs.Runs.{Starts, PastSet, Half, Meets, AnyMeets, Passed, Lowest};
+ghost use Rattle.bitmap.specs.Map.{InMap};
+ghost use Rattle.runs.specs.Runs.{Starts, LastSet, Half, Meets, AnyMeets, Passed, Lowest};
 
 // A word with every bit set.
 const ONES: u64 = u64::MAX;
@@ -33,40 +34,39 @@ fn starts(w: u64, n: usize) -> u64
     eight & (eight >> s)
 }
 
-// What is past the highest set bit of the `n` from `p` on, or `p` if none of them is set.
-fn past_set(map: &[u8], p: usize, n: usize) -> usize
+// The highest set bit of the `n` from `p` on.
+// Kept: a loop and not `rfind`, which was tried: the library has no lemma on `rfind` over a range, and the loop is proved without an answer.
+fn last_set(map: &[u8], p: usize, n: usize) -> Option<usize>
     requires { (p + n ≤ 8 * length map.now) × (p + n < 2 ^ 64) }
-    ensures { PastSet map.now p n result }
+    ensures { LastSet map.now p (p + n) result }
 {
-    let mut q = p + n;
-    while p < q {
-        if bitmap::get(map, q - 1) {
-            return q;
+    for k in (p..p + n).rev() {
+        if bitmap::get(map, k) {
+            return Some(k);
         }
-        q -= 1;
     }
-    p
+    None
 }
 
 // The lowest run, bit by bit: of a window that is not clear all are passed over up to its highest set bit.
-fn run_bits(map: &[u8], from: usize, end: usize, n: usize) -> usize
-    requires { (from ≤ end) × (end ≤ 8 * length map.now) × (0 < n) }
+fn run_bits(map: &[u8], from: usize, end: usize, n: usize) -> Option<usize>
+    requires { InMap map.now from end × (0 < n) }
     ensures { Lowest map.now n from end result }
 {
     let mut p = from;
     while n <= end - p {
-        let q = past_set(map, p, n);
-        if q == p {
-            return p;
-        }
-        p = q;
+        let Some(k) = last_set(map, p, n) else {
+            return Some(p);
+        };
+        p = k + 1;
     }
-    end
+    None
 }
 
 // The lowest run, by words. A word with every bit set is passed over whole.
-fn run_words(map: &[u8], from: usize, end: usize, n: usize) -> usize
-    requires { (from ≤ end) × (end ≤ 8 * length map.now) × (from % 8 ≡ 0) × (0 < n) × (n ≤ 16) }
+// Kept: a `while`, as the next place is 64 bits on or 48, as the word says.
+fn run_words(map: &[u8], from: usize, end: usize, n: usize) -> Option<usize>
+    requires { InMap map.now from end × (from % 8 ≡ 0) × (0 < n) × (n ≤ 16) }
     ensures { Lowest map.now n from end result }
 {
     let mut p = from;
@@ -77,7 +77,7 @@ fn run_words(map: &[u8], from: usize, end: usize, n: usize) -> usize
         } else {
             let m = starts(w, n);
             if m != 0 {
-                return p + bitmap::first(m, true) as usize;
+                return Some(p + bitmap::first(m, true) as usize);
             }
             p += APART;
         }
@@ -85,29 +85,12 @@ fn run_words(map: &[u8], from: usize, end: usize, n: usize) -> usize
     run_bits(map, p, end, n)
 }
 
-// Whether one or the other is so.
-fn either(a: bool, b: bool) -> bool
-    ensures { result ≡ (a || b) }
-{
-    if a {
-        return true;
-    }
-    b
-}
-
-// Two bytes as one number.
-fn half_of(low: u8, high: u8) -> u16
-    ensures { result ≡ low + 256 * high }
-{
-    low as u16 + 256 * (high as u16)
-}
-
 // The sixteen bits of the map from bit 16 k on.
 fn half(map: &[u8], k: usize) -> u16
     requires { 2 * k + 2 ≤ length map.now }
     ensures { Half map.now k result }
 {
-    half_of(map[2 * k], map[2 * k + 1])
+    u16::from_le_bytes([map[2 * k], map[2 * k + 1]])
 }
 
 // Zero where sixteen clear bits lie over two halves: for some m the bits from m on of the first and those below m of the second. The second and its
@@ -115,19 +98,18 @@ fn half(map: &[u8], k: usize) -> u16
 fn meets(x: u16, z: u16) -> u16
     ensures { Meets x z result }
 {
-    x & (z | std::num::wrapping_sub_u16(0, z))
+    x & (z | 0u16.wrapping_sub(z))
 }
 
 // Whether that is so of any half of the map from `i` to `end` and the next. The loop has no exit, so that the compiler can take several at once.
+// Kept: a loop and not `any`, which was tried: it leaves at the first, and takes ten times as long over a map without one.
 fn any_meets(map: &[u8], i: usize, end: usize) -> bool
     requires { 2 * end + 2 ≤ length map.now }
     ensures { AnyMeets map.now i end result }
 {
     let mut any = false;
-    let mut k = i;
-    while k < end {
-        any = either(any, meets(half(map, k), half(map, k + 1)) == 0);
-        k += 1;
+    for k in i..end {
+        any |= meets(half(map, k), half(map, k + 1)) == 0;
     }
     any
 }
@@ -149,16 +131,14 @@ fn pass_halves(map: &[u8], from: usize, end: usize) -> usize
     16 * last
 }
 
-// The first place from `from` on at which `n` clear bits begin that end before `end`, or `end` if there is none. Whether there are sixteen, as a whole
-// unit wants, is told by halves before they are sought by words.
-pub fn lowest_run(map: &[u8], from: usize, end: usize, n: usize) -> usize
-    requires { (from ≤ end) × (end ≤ 8 * length map.now) × (from % 16 ≡ 0) × (0 < n) × (n ≤ 16) }
+// The first place from `from` on at which `n` clear bits begin that end before `end`. Whether there are sixteen, as a whole unit wants, is told by
+// halves before they are sought by words.
+pub fn lowest_run(map: &[u8], from: usize, end: usize, n: usize) -> Option<usize>
+    requires { InMap map.now from end × (from % 16 ≡ 0) × (0 < n) × (n ≤ 16) }
     ensures { Lowest map.now n from end result }
 {
-    if n == 16 {
-        if 32 <= end - from {
-            return run_words(map, pass_halves(map, from, end), end, n);
-        }
+    if n == 16 && 32 <= end - from {
+        return run_words(map, pass_halves(map, from, end), end, n);
     }
     run_words(map, from, end, n)
 }

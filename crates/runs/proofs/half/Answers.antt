@@ -5,4 +5,4 @@ use Rattle.std.proofs.Common.{rules}
 use Rattle.runs.proofs.half.Goals as goal
 
 pub returns : goal.returns
-returns c = half-bits _ _ _ (search rules) c.half_of.ensures
+returns c = half-bits _ _ _ (search rules) c.from_le_bytes.ensures

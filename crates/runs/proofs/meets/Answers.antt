@@ -5,4 +5,4 @@ use Rattle.runs.proofs.RunLaws.{meets-zero}
 use Rattle.runs.proofs.meets.Goals as goal
 
 pub returns : goal.returns
-returns c = meets-zero _ _ _ (omega arith) (omega arith) (omega arith) c.wrapping_sub_u16.ensures.value
+returns c = meets-zero _ _ _ (omega arith) (omega arith) (omega arith) (omega arith)

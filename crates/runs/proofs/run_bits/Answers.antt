@@ -1,15 +1,9 @@
-use Rattle.std.proofs.Common.{rules}
-use Rattle.runs.proofs.RunLaws.{passed_none, window-clear, window-set, lowest-none}
+use Rattle.std.proofs.Common.{arith}
+use Rattle.runs.proofs.RunLaws.{window-clear, window-set}
 use Rattle.runs.proofs.run_bits.Goals as goal
 
-pub loop-p-init : goal.loop-p-init
-loop-p-init c = search (passed_none, rules)
-
-pub returns-then-q-p : goal.returns-then-q-p
-returns-then-q-p c = search (window-clear, rules)
+pub returns-in_default : goal.returns-in_default
+returns-in_default c = window-clear _ _ _ _ _ c.loop-p.invariant (omega arith) c.in_default.ensures
 
 pub loop-p-preserved : goal.loop-p-preserved
-loop-p-preserved c = search (window-set, rules)
-
-pub returns : goal.returns
-returns c = search (lowest-none, rules)
+loop-p-preserved c = window-set _ _ _ _ _ _ c.loop-p.invariant (omega arith) c.in-Some.ensures.0 c.in-Some.ensures.1 c.in-Some.ensures.2

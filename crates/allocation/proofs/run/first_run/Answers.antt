@@ -1,16 +1,12 @@
-use Rattle.allocation.proofs.GroupLaws.{groups_is}
-use Rattle.allocation.proofs.RunLaws.{turned_none, turned-run, turned_more, turned-all}
-use borrow.Author.Rules.{rules}
+use Rattle.std.proofs.Common.{arith}
+use Rattle.allocation.proofs.RunLaws.{turned-run, turned_more, turned-all}
 use Rattle.allocation.proofs.run.first_run.Goals as goal
 
-pub loop-i-init : goal.loop-i-init
-loop-i-init c = search (groups_is, turned_none, rules)
-
-pub returns-then-b-blocks : goal.returns-then-b-blocks
-returns-then-b-blocks c = search (turned-run, rules)
+pub returns-in-Some : goal.returns-in-Some
+returns-in-Some c = turned-run _ _ _ _ _ _ _ c.loop-i.invariant c.groups_of-groups.ensures.value (omega arith) c.group_at.ensures.0 _ c.in-Some.ensures
 
 pub loop-i-preserved : goal.loop-i-preserved
-loop-i-preserved c = search (turned_more, rules)
+loop-i-preserved c = turned_more _ _ _ _ _ _ _ c.loop-i.invariant c.groups_of-groups.ensures.value (omega arith) c.group_at.ensures.0 c.in_default.ensures
 
 pub returns : goal.returns
-returns c = search (turned-all, rules)
+returns c = turned-all _ _ _ _ _ _ c.loop-i.invariant c.groups_of-groups.ensures.value (omega arith)

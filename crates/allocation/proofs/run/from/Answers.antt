@@ -1,12 +1,9 @@
-use Rattle.allocation.proofs.RunLaws.{written_none, written-more, written_all}
-use borrow.Author.Rules.{rules}
+use Rattle.std.proofs.Common.{arith, ◌∙◌}
+use Rattle.allocation.proofs.RunLaws.{range_nothing, range_more}
 use Rattle.allocation.proofs.run.from.Goals as goal
 
-pub loop-i-init : goal.loop-i-init
-loop-i-init c = search (written_none, rules)
+pub loop-x-init : goal.loop-x-init
+loop-x-init c = range_nothing _ _ c.new-t.ensures
 
-pub loop-i-preserved : goal.loop-i-preserved
-loop-i-preserved c = search (written-more, rules)
-
-pub returns : goal.returns
-returns c = written_all _ _ _ _ c.loop-i.invariant c.loop-i-test.false
+pub loop-x-preserved : goal.loop-x-preserved
+loop-x-preserved c = (c.push.ensures.list ∙ rw c.loop-x.invariant.0 (range_more _ _ (omega arith)), omega (arith, c.push.ensures.count, c.loop-x.invariant.1))

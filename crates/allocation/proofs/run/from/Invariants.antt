@@ -1,11 +1,9 @@
--- `allocation::run::from` meets its contract. The invariant: the first `i` blocks are written down. The measure is how many are left.
+-- `allocation::run::from` meets its contract. The invariant: the blocks before `x` are taken.
 -- Assumes nothing.
-use Prim.Native.Nat.{◌-◌}
-use Rattle.allocation.proofs.RunLaws.{Written}
+use Rattle.std.proofs.Common.{◌≡◌, ◌-◌}
+use Rattle.rules.specs.Lists.{range}
+use Rattle.allocation.specs.Search.{held}
 use Rattle.allocation.proofs.run.from.Given as goal
 
-abbrev pub invariant-loop-i : goal.invariant-loop-i
-invariant-loop-i l = Written l.b l.n l.a l.i
-
-abbrev pub decreases-loop-i : goal.decreases-loop-i
-decreases-loop-i l = l.n - l.i
+abbrev pub invariant-loop-x : goal.invariant-loop-x
+invariant-loop-x l = (held l.t ≡ range l.b (l.x - l.b)) × (l.t.count ≡ l.x - l.b)

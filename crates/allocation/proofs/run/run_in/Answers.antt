@@ -1,19 +1,17 @@
 -- `allocation::run::run_in` meets its contract: the lowest run between a group's ends is the group's.
--- Assumes nothing.
-use native.Mathlib.Omega.{arith}
+use Rattle.std.proofs.Common.{rules, arith, Some, None}
 use Rattle.allocation.proofs.GroupLaws.{group-start}
-use Rattle.allocation.proofs.RunLaws.{group-run, group-none}
-use borrow.Author.Rules.{rules}
+use Rattle.allocation.proofs.RunLaws.{group-run}
 use Rattle.allocation.proofs.run.run_in.Goals as goal
 
 pub overflow_mul-start : goal.overflow_mul-start
-overflow_mul-start c = omega (arith, group-start c.args.blocks c.args.g c.requires.blocks_le_most_blocks.2)
+overflow_mul-start c = omega (arith, group-start c.args.blocks c.args.g c.requires.on_map.1)
 
 pub group_end-end-requires : goal.group_end-end-requires
 group_end-end-requires c = search (group-start, rules)
 
-pub returns-then-b-end : goal.returns-then-b-end
-returns-then-b-end c = group-run _ _ _ _ _ _ (omega arith) c.group_end-end.ensures.0 c.lowest_run-b.ensures c.if-b-end.true
+pub returns-in-Some : goal.returns-in-Some
+returns-in-Some c = group-run _ _ _ _ _ (Some _) c.requires.on_map.1 c.group_end-end.ensures.0 (omega arith) c.in-Some.ensures
 
-pub returns : goal.returns
-returns c = group-none _ _ _ _ _ _ (omega arith) c.group_end-end.ensures.0 c.lowest_run-b.ensures (omega arith) c.if-b-end.false
+pub returns-in-None : goal.returns-in-None
+returns-in-None c = group-run _ _ _ _ _ None c.requires.on_map.1 c.group_end-end.ensures.0 (omega arith) c.in-None.ensures
