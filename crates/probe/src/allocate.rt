@@ -82,27 +82,17 @@ fn allocate(
     out: &mut [u8],
     scattered: bool,
 ) -> usize {
-    if MAP_BYTES < map.len() {
-        return 18;
-    }
-    if ((8 * map.len()) as u64) < blocks {
-        return 18;
-    }
-    if UNIT_BLOCKS < want {
-        return 18;
-    }
-    if past.len() != 32 {
-        return 18;
-    }
-    if out.len() != 136 {
+    if MAP_BYTES < map.len()
+        || ((8 * map.len()) as u64) < blocks
+        || UNIT_BLOCKS < want
+        || past.len() != 32
+        || out.len() != 136
+    {
         return 18;
     }
     let r = unit(map, blocks, hint, cursors_of(past), want, scattered);
     put_answer(past, out, r);
-    if r.enough {
-        return want;
-    }
-    17
+    if r.enough { want } else { 17 }
 }
 
 // The blocks of one unit.

@@ -14,16 +14,10 @@ pub extern "C" fn sangueko_probe_books_broken(
     groups: &[u8],
     k: usize,
 ) -> bool {
-    if cards.len() / CARD_BYTES < n {
-        return true;
-    }
-    if extents.len() / EXTENT_BYTES < m {
-        return true;
-    }
-    if groups.len() / GROUP_BYTES < k {
-        return true;
-    }
-    intake_books::books_broken(blocks, cards, n, extents, m, groups, k)
+    cards.len() / CARD_BYTES < n
+        || extents.len() / EXTENT_BYTES < m
+        || groups.len() / GROUP_BYTES < k
+        || intake_books::books_broken(blocks, cards, n, extents, m, groups, k)
 }
 
 // The place of the first of `n` cards whose object is `object` or more, or `n`; 0 where so many do not fit.

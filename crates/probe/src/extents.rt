@@ -25,19 +25,7 @@ pub extern "C" fn sangueko_probe_splice_extents(
 ) -> bool {
     let places = book.len() / EXTENT_BYTES;
     let m = new.len() / EXTENT_BYTES;
-    if new.len() != EXTENT_BYTES * m {
-        return false;
-    }
-    if places < n {
-        return false;
-    }
-    if n < i {
-        return false;
-    }
-    if n - i < k {
-        return false;
-    }
-    if places - (n - k) < m {
+    if new.len() != EXTENT_BYTES * m || places < n || n < i || n - i < k || places - (n - k) < m {
         return false;
     }
     book::splice::splice_extents(book, n, i, k, new, m);
@@ -48,13 +36,11 @@ pub extern "C" fn sangueko_probe_splice_extents(
 fn extents_of(book: &[u8], n: usize) -> usize
     ensures { (extent_bytes * result ≤ length book.now) × (result ≤ most_places) }
 {
-    if book.len() / EXTENT_BYTES < n {
-        return 0;
+    if n <= book.len() / EXTENT_BYTES && n <= MOST_PLACES {
+        n
+    } else {
+        0
     }
-    if MOST_PLACES < n {
-        return 0;
-    }
-    n
 }
 
 // One more than the place of the last extent of `object` at `block` or before among the first `n` of an ordered book, or 0 where there is none.

@@ -15,10 +15,7 @@ pub extern "C" fn sangueko_probe_compact_group(group: &[u8]) -> usize {
 // The checksum in slot `n`, or 2^32 where none is present.
 #[unsafe(no_mangle)]
 pub extern "C" fn sangueko_probe_checksum_slot(group: &[u8], n: usize) -> u64 {
-    if group.len() != GROUP_BYTES {
-        return 0x1_0000_0000;
-    }
-    if GROUP_UNITS <= n {
+    if group.len() != GROUP_BYTES || GROUP_UNITS <= n {
         return 0x1_0000_0000;
     }
     let slot = checksum_group::checksum_slot_at(group, 0, n);
@@ -39,10 +36,7 @@ fn slot_of(crc: u64) -> Option<u32> {
 // Slot `n` set, or cleared.
 #[unsafe(no_mangle)]
 pub extern "C" fn sangueko_probe_set_checksum_slot(group: &mut [u8], n: usize, crc: u64) {
-    if group.len() != GROUP_BYTES {
-        return;
-    }
-    if GROUP_UNITS <= n {
+    if group.len() != GROUP_BYTES || GROUP_UNITS <= n {
         return;
     }
     let object = checksum_group::group_object(group, 0);

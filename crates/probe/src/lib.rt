@@ -31,10 +31,8 @@ pub extern "C" fn sangueko_probe_crc32c_repeated(bytes: &[u8], times: usize) -> 
 {
     let t = crc32c_tables::tables();
     let mut c = crc32c::begin();
-    let mut i: usize = 0;
-    while i < times {
+    for i in 0..times {
         c = crc32c::feed(&t, c, bytes);
-        i += 1;
     }
     crc32c::finish(c)
 }
@@ -62,9 +60,10 @@ fn map_bits(map: &[u8]) -> usize
     ensures { result ≡ map_bits map.now }
 {
     if map.len() <= MAP_BYTES {
-        return 8 * map.len();
+        8 * map.len()
+    } else {
+        0
     }
-    0
 }
 
 // How many bits of a map are set.

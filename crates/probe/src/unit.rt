@@ -8,10 +8,7 @@ fn piece_end(at: usize, n: usize, len: usize) -> usize
     requires { (at < len) × (0 < n) }
     ensures { (at < result) × (result ≤ len) }
 {
-    if len - at < n {
-        return len;
-    }
-    at + n
+    at + n.min(len - at)
 }
 
 // The checksum of a unit whose valid bytes are `s`, in pieces of `n`.
@@ -51,10 +48,7 @@ pub extern "C" fn sangueko_probe_unit_checksum(
 ) -> u32
     ensures { length bytes.now < 2 ^ 32 → 0 < piece → result ≡ unit_checksum uuid.now object unit bytes.now }
 {
-    if 0xffff_ffff < bytes.len() {
-        return 0;
-    }
-    if piece < 1 {
+    if 0xffff_ffff < bytes.len() || piece < 1 {
         return 0;
     }
     let t = crc32c_tables::tables();

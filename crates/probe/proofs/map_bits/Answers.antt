@@ -8,5 +8,5 @@ overflow_mul-result c = search (bits-yes, bits-no, bits_inside, counted, cleared
 pub returns-then-map-le-MAP_BYTES : goal.returns-then-map-le-MAP_BYTES
 returns-then-map-le-MAP_BYTES c = search (bits-yes, bits-no, bits_inside, counted, cleared, rules)
 
-pub returns : goal.returns
-returns c = search (bits-yes, bits-no, bits_inside, counted, cleared, rules)
+pub returns-else-map-le-MAP_BYTES : goal.returns-else-map-le-MAP_BYTES
+returns-else-map-le-MAP_BYTES c = search (bits-yes, bits-no, bits_inside, counted, cleared, rules)

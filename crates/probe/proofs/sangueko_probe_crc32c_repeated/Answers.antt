@@ -4,10 +4,10 @@ use borrow.Author.Rules.{rules}
 use Rattle.probe.proofs.sangueko_probe_crc32c_repeated.Goals as goal
 
 pub loop-i-init : goal.loop-i-init
-loop-i-init c = (omega arith, repeated-none _ _ c.begin-c.ensures)
+loop-i-init c = repeated-none _ _ c.begin-c.ensures
 
 pub loop-i-preserved : goal.loop-i-preserved
-loop-i-preserved c = (omega arith, repeated-more _ _ _ _ c.loop-i.invariant.1 c.feed-c.ensures)
+loop-i-preserved c = repeated-more _ _ _ _ c.loop-i.invariant c.feed-c.ensures
 
 pub returns : goal.returns
-returns c = repeated-all _ _ _ _ _ c.loop-i.invariant.1 (omega arith) c.finish.ensures (search rules)
+returns c = repeated-all _ _ _ _ _ c.loop-i.invariant (omega arith) c.finish.ensures (search rules)

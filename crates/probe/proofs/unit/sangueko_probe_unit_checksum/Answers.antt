@@ -7,9 +7,6 @@ use Rattle.probe.proofs.unit.sangueko_probe_unit_checksum.Goals as goal
 pub returns-then-bytes-gt4294967295 : goal.returns-then-bytes-gt4294967295
 returns-then-bytes-gt4294967295 c = λ h g. absurd (omega (arith, h))
 
-pub returns-then-piece-lt1 : goal.returns-then-piece-lt1
-returns-then-piece-lt1 c = λ h g. absurd (omega (arith, g))
-
 pub in_pieces-requires : goal.in_pieces-requires
 in_pieces-requires c = record { tables = c.tables-t.ensures; w_len = refl; s_len_bound = omega arith; n_nonzero = omega arith }
 
