@@ -134,6 +134,17 @@ module _ (list : List ℕ) where
           let z : lengths_of (triples_from list i) ≡ 0 = ap lengths_of (from_end i (omega (arith, l, e))) in
           omega (arith, h, z)
 
+      -- where it exceeds what is left, the lengths do not add up to the room
+      pub left-differs : (t : struct.Triple) → i < n → triple_of t ≡ triple_at list i → left < t.len → true ≡ not (eqb (lengths_of (decode_triples list)) room)
+      left-differs t l q x = sym (ap not (ne_eqb (lengths_of (decode_triples list)) room (λ z. omega (arith, z, past_room t l q x))))
+
+      -- at the end they do where nothing is left
+      pub left-none : n ≤ i → not (eqb left 0) ≡ not (eqb (lengths_of (decode_triples list)) room)
+      left-none l =
+          test-cases _ (eqb left 0)
+          (λ p. ap not (p ∙ sym (eq-eqb (lengths_of (decode_triples list)) room (omega (arith, eqb-true left 0 p, none-behind l)))))
+          (λ p. ap not (p ∙ sym (ne_eqb (lengths_of (decode_triples list)) room (λ z. eqb-false left 0 p (omega (arith, z, none-behind l))))))
+
     module _ (r : Option ℕ) (h : MatchOption r (room < lengths_of (decode_triples list)) (λ left. left + lengths_of (decode_triples list) ≡ room)) (b : Bool) where
       -- the lengths exceed the room where nothing is left
       pub exceeds : is_some r ≡ not b → b ≡ ltb room (lengths_of (decode_triples list))
