@@ -367,7 +367,3 @@ allocates map blocks hint past want t r m w c a used taken k =
       places = ap length a.raised ∙ raised_all-places past (held t) ∙ k.places;
       highs = rw (a.raised, d) (raised_all-highs blocks taken past m k.places each k.highs);
     }
-
--- its blocks have room and lie in the store
-pub answered-within : (want blocks hint : ℕ) (bs past : List ℕ) (t : Taken) (r : Allocated) → Chosen want blocks bs t → Answered t hint past r → Room 16 r.taken × Within blocks r.taken
-answered-within want blocks hint bs past t r c a = (record { fits = r.taken.fits; places = r.taken.places }, rw a.given c.within)

@@ -47,7 +47,7 @@ unfolding allocation_groups
 group-start blocks g l = omega arith
 
 -- the blocks of two runs, one after the other
-pub collected-runs : (want : ℕ) (ys zs ws : List ℕ) (r s : Taken) → Collected want ys zs r → Collected want (held r) ws s → Collected want ys (zs ++ ws) s
+collected-runs : (want : ℕ) (ys zs ws : List ℕ) (r s : Taken) → Collected want ys zs r → Collected want (held r) ws s → Collected want ys (zs ++ ws) s
 collected-runs want ys zs ws r s p q =
     record {
       list = q.list ∙ rw p.list (take_again want (ys ++ zs) ws) ∙ ap (take want) (append_assoc ys zs ws);

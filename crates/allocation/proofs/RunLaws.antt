@@ -81,9 +81,3 @@ range_more b x l =
     let d : x + 1 - b ≡ x - b + 1 = omega arith in
     let e : b + (x - b) ≡ x = omega arith in
     rw (d, range-add b (x - b) 1, e) (unfold range in refl)
-
--- all of them
-pub range_all : (b n x : ℕ) (t : Taken) → held t ≡ range b (x - b) → t.count ≡ x - b → x ≡ b + n → (held t ≡ range b n) × Room n t
-range_all b n x t e c d =
-    let m : x - b ≡ n = omega arith in
-    (rw m at e, record { fits = omega arith; places = t.places })

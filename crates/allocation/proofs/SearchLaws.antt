@@ -39,14 +39,14 @@ clear-passed map a e r h =
     ∙ ap (λ (t : List ℕ). t ++ filter (clear map) (range r (e - r))) none
 
 -- the next clear bit is the first of a run's
-pub next-found : (map : List ℕ) (a e r : ℕ) → Next map false a e r → r < e → clear_bits map a e ≡ r ∷ clear_bits map (r + 1) e
+next-found : (map : List ℕ) (a e r : ℕ) → Next map false a e r → r < e → clear_bits map a e ≡ r ∷ clear_bits map (r + 1) e
 next-found map a e r h l =
     clear-passed map a e r h
     ∙ rw (add-one r)
     (unfold clear_bits in rw (range-first r e l) (filter-yes (clear map) r (range (suc r) (e - suc r)) (unfold clear in rw (h.found l) refl)))
 
 -- a run without one has none
-pub next-nothing : (map : List ℕ) (a e r : ℕ) → Next map false a e r → r ≡ e → clear_bits map a e ≡ []
+next-nothing : (map : List ℕ) (a e r : ℕ) → Next map false a e r → r ≡ e → clear_bits map a e ≡ []
 next-nothing map a e r h l =
     clear-passed map a e r h ∙ (unfold clear_bits in rw (range_none r (e - r) (omega arith)) (unfold filter in refl))
 
@@ -71,12 +71,8 @@ next_free map a e n p r s h q =
     (λ t. rw (q, t) (ltb-true p e t, f))
     (λ t. let d : p ≡ e = let l : e ≤ p = ltb-false p e t in omega arith in rw (q, t) (rw d at f))
 
--- nothing has been passed over
-pub skipped-none : (map : List ℕ) (a e : ℕ) → a ≤ e → Skipped map a e a
-skipped-none map a e l = record { least = omega arith; most = l; before = λ k p q. absurd (omega arith) }
-
 -- words of ones are
-pub skipped_words : (map : List ℕ) (a e n : ℕ) → Bytes map → a % 8 ≡ 0 → a + 64 * n ≤ e → ((k : ℕ) → k < n → le (part ((a + 64 * k) / 8) 8 map) ≡ 0xffffffffffffffff) → Skipped map a e (a + 64 * n)
+skipped_words : (map : List ℕ) (a e n : ℕ) → Bytes map → a % 8 ≡ 0 → a + 64 * n ≤ e → ((k : ℕ) → k < n → le (part ((a + 64 * k) / 8) 8 map) ≡ 0xffffffffffffffff) → Skipped map a e (a + 64 * n)
 skipped_words map a e n b z l f = record { least = omega arith; most = l; before = λ k u v. bit ((k - a) / 64) ((k - a) % 64) k (omega arith) (omega arith) (omega arith) }
   where
     bit : (i j k : ℕ) → i < n → j < 64 → a + 64 * i + j ≡ k → bit_set map k ≡ true

@@ -5,8 +5,5 @@ use Rattle.allocation.proofs.run.first_run.Goals as goal
 pub returns-in-Some : goal.returns-in-Some
 returns-in-Some c = turned-run _ _ _ _ _ _ _ c.loop-i.invariant c.groups_of-groups.ensures.value (omega arith) c.group_at.ensures.0 _ c.in-Some.ensures
 
-pub loop-i-preserved : goal.loop-i-preserved
-loop-i-preserved c = turned_more _ _ _ _ _ _ _ c.loop-i.invariant c.groups_of-groups.ensures.value (omega arith) c.group_at.ensures.0 c.in_default.ensures
-
 pub returns : goal.returns
 returns c = turned-all _ _ _ _ _ _ c.loop-i.invariant c.groups_of-groups.ensures.value (omega arith)
