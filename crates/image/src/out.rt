@@ -34,6 +34,7 @@ pub fn hand_out(image: &[u8], blocks: &[u32], at: usize, n: usize, out: &mut [u8
     let first = at / BLOCK_BYTES;
     let start = at % BLOCK_BYTES;
     let mut d: usize = 0;
+    // Kept: a `while`, as a piece ends where its block does.
     while d < n {
         let place = (start + d) % BLOCK_BYTES;
         let m = (BLOCK_BYTES - place).min(n - d);

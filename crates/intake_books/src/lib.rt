@@ -215,6 +215,7 @@ pub fn files_right(cards: &[u8], n: usize, extents: &[u8], m: usize) -> bool
 {
     let mut j: usize = 0;
     let mut i: usize = 0;
+    // Kept: a `while`, as the place jumps from file to file.
     while i < m {
         let e = format::extent::decode_extent(extents, EXTENT_BYTES * i);
         j = card_from(cards, n, j, e.object);

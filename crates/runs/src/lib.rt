@@ -54,6 +54,7 @@ fn run_bits(map: &[u8], from: usize, end: usize, n: usize) -> Option<usize>
     ensures { Lowest map.now n from end result }
 {
     let mut p = from;
+    // Kept: a `while`, as the place jumps to behind the highest set bit.
     while n <= end - p {
         let Some(k) = last_set(map, p, n) else {
             return Some(p);

@@ -42,6 +42,7 @@ fn count_stretches(groups: &[u8], n: usize, object: u64, first: u64, end: u64) -
     let mut place = start.place;
     let mut unit = first;
     let mut count: u64 = 0;
+    // Kept: a `while`, as the unit jumps from stretch to stretch.
     while unit < end {
         let s = presence::next_stretch(groups, n, object, Position { unit, place }, end);
         if s.first >= end {
@@ -74,6 +75,7 @@ fn put_stretches(groups: &[u8], n: usize, object: u64, first: u64, end: u64, out
     let mut place = start.place;
     let mut unit = first;
     let mut i: usize = 0;
+    // Kept: a `while`, as the unit jumps from stretch to stretch.
     while unit < end {
         let s = presence::next_stretch(groups, n, object, Position { unit, place }, end);
         if s.first >= end {
