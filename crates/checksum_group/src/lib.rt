@@ -1,14 +1,16 @@
-// A checksum group in hand: the checksums of 256 units of a file. In bytes it has 32 presence bytes and 256 slot values.
+// A checksum group in hand: the checksums of 256 units of a file, as 32 presence bytes and 256 slot values.
 #![tactic(auto)]
 
 ghost use Rattle.std.specs.Prelude.{◌≡◌, ℕ, ◌+◌, ◌-◌, ◌*◌, ◌/◌, ◌%◌, ◌^◌, ◌≤◌, ◌<◌, eqb, length, get_or, set};
 ghost use mathlib.Core.List.{flat_map};
-ghost use Rattle.rules.specs.Bytes.{part, patch, byte_of};
+ghost use Rattle.std.proofs.Math.Option.{none, some};
+ghost use Rattle.std.specs.Int.Count.{count_leading_zeros};
+ghost use Rattle.rules.specs.Bytes.{part, patch};
 ghost use Rattle.rules.specs.Lists.{range, all};
 ghost use Rattle.rules.specs.Sizes.{group_units};
-ghost use Rattle.rules.specs.Group.{group_bytes, group_key, presence, slot_bytes, encode_group, decode_group, group_fixed, absent_zero, empty_group, checksum_slot, set_checksum_slot, up_to_present};
+ghost use Rattle.rules.specs.Group.{group_bytes, group_key, slot_bytes, encode_group, decode_group, group_fixed, absent_zero, empty_group, checksum_slot, set_checksum_slot, up_to_present};
 ghost use Rattle.format.specs.Records.{key_bytes};
-ghost use Rattle.checksum_group.specs.Slots.{presence_bytes, slot_width, said, present_in, slots_of, group_of, crc_of, slot_right};
+ghost use Rattle.checksum_group.specs.Slots.{presence_bytes, slot_width, slots_from, slots_of, group_of, crc_of, value_of, value_bytes, values_at, slot_right, UpTo};
 
 use format::key::KEY_BYTES;
 use format::sizes::GROUP_UNITS;
@@ -29,10 +31,11 @@ pub const SLOTS_AT: usize = PRESENCE_AT + PRESENCE_BYTES;
 // The byte of its key that stands between object and number.
 const GROUP_TAG: u8 = 4;
 
-// The checksums of the group's units, each where it is present.
+// The presence bits, slot n at bit n mod 8 of byte n div 8, and the slots' values.
 #[derive(Drop)]
 pub struct ChecksumGroup {
-    pub slots: [Option<u32>; GROUP_UNITS],
+    pub present: [u8; PRESENCE_BYTES],
+    pub slots: [u32; GROUP_UNITS],
 }
 
 // A group with no slot present.
@@ -40,7 +43,8 @@ pub fn empty_group() -> ChecksumGroup
     ensures { (object number : ℕ) → group_of object number result ≡ empty_group object number }
 {
     ChecksumGroup {
-        slots: [None; GROUP_UNITS],
+        present: [0; PRESENCE_BYTES],
+        slots: [0; GROUP_UNITS],
     }
 }
 
@@ -57,7 +61,12 @@ pub fn checksum_slot(g: ChecksumGroup, n: usize) -> Option<u32>
     requires { n < group_units }
     ensures { (object number : ℕ) → crc_of result ≡ checksum_slot (group_of object number g) n }
 {
-    g.slots[n]
+    let b = n / 8;
+    if bit_at(g.present[b], n % 8) {
+        Some(g.slots[n])
+    } else {
+        None
+    }
 }
 
 // The same of the group at `at`: one slot is read without the others.
@@ -73,26 +82,73 @@ pub fn checksum_slot_at(s: &[u8], at: usize, n: usize) -> Option<u32>
     }
 }
 
+// The group with a checksum in slot `n`.
+fn with_slot(g: ChecksumGroup, n: usize, crc: u32) -> ChecksumGroup
+    requires { n < group_units }
+    ensures { slots_of result ≡ set (slots_of g) n (some crc) }
+{
+    let mut h = g;
+    let b = n / 8;
+    h.present[b] = h.present[b] | (1u8 << (n % 8));
+    h.slots[n] = crc;
+    h
+}
+
+// The group with slot `n` cleared.
+fn without_slot(g: ChecksumGroup, n: usize) -> ChecksumGroup
+    requires { n < group_units }
+    ensures { slots_of result ≡ set (slots_of g) n none }
+{
+    let mut h = g;
+    let b = n / 8;
+    h.present[b] = h.present[b] & !(1u8 << (n % 8));
+    h.slots[n] = 0;
+    h
+}
+
 // The group with slot `n` set, or cleared, by value.
-pub fn set_checksum_slot(mut g: ChecksumGroup, n: usize, slot: Option<u32>) -> ChecksumGroup
+pub fn set_checksum_slot(g: ChecksumGroup, n: usize, slot: Option<u32>) -> ChecksumGroup
     requires { n < group_units }
     ensures { (object number : ℕ) → group_of object number result ≡ set_checksum_slot (group_of object number g) n (crc_of slot) }
 {
-    g.slots[n] = slot;
-    g
+    match slot {
+        Some(crc) => with_slot(g, n, crc),
+        None => without_slot(g, n),
+    }
 }
 
-// The length of a group's value that keeps the slots up to the last present one.
+// How many of the presence bytes there are up to the last that is not zero.
+fn bytes_used(present: &[u8; PRESENCE_BYTES]) -> usize
+    ensures { UpTo present.now result }
+{
+    let mut i: usize = PRESENCE_BYTES;
+    while 0 < i {
+        if present[i - 1] != 0 {
+            return i;
+        }
+        i -= 1;
+    }
+    0
+}
+
+// How many bits of a byte there are up to its highest set one.
+fn bits_used(byte: u8) -> usize
+    ensures { (result ≡ 8 - count_leading_zeros 8 byte) × (byte < 256) }
+{
+    8 - u8::leading_zeros(byte) as usize
+}
+
+// The length of a group's value that keeps the slots up to the last present one, which is found by the leading zeros of the last
+// presence byte that is not zero.
 pub fn compact_group(g: ChecksumGroup) -> usize
     ensures { result ≡ presence_bytes + slot_width * up_to_present (slots_of g) }
 {
-    let mut used = 0;
-    for (n, slot) in g.slots.iter().enumerate() {
-        if slot.is_some() {
-            used = n + 1;
-        }
+    let present = g.present;
+    let used = bytes_used(&present);
+    if used == 0 {
+        return PRESENCE_BYTES;
     }
-    PRESENCE_BYTES + SLOT_BYTES * used
+    PRESENCE_BYTES + SLOT_BYTES * (8 * (used - 1) + bits_used(present[used - 1]))
 }
 
 // The object of the group at `at`.
@@ -111,16 +167,29 @@ pub fn group_number(s: &[u8], at: usize) -> u64
     words::be64(s, at + format::key::NUMBER_AT)
 }
 
+// The 256 values of 4 bytes from `at` on.
+fn read_slots(s: &[u8], at: usize) -> [u32; GROUP_UNITS]
+    requires { at + slot_width * group_units ≤ length s.now }
+    ensures { result ≡ values_at s.now at }
+{
+    let mut slots = [0u32; GROUP_UNITS];
+    let mut i: usize = 0;
+    while i < GROUP_UNITS {
+        slots[i] = words::le32(s, at + SLOT_BYTES * i);
+        i += 1;
+    }
+    slots
+}
+
 // The checksums of the group at `at`.
 pub fn decode_group(s: &[u8], at: usize) -> ChecksumGroup
     requires { at + group_bytes ≤ length s.now }
     ensures { slots_of result ≡ (decode_group (part at group_bytes s.now)).slots }
 {
-    let mut slots = [None; GROUP_UNITS];
-    for (n, slot) in slots.iter_mut().enumerate() {
-        *slot = checksum_slot_at(s, at, n);
-    }
-    ChecksumGroup { slots }
+    let mut present = [0u8; PRESENCE_BYTES];
+    words::range::copy_part(&mut present, 0, s, at + PRESENCE_AT, PRESENCE_BYTES);
+    let slots = read_slots(s, at + SLOTS_AT);
+    ChecksumGroup { present, slots }
 }
 
 // Whether the fixed byte of the group at `at` is right: the 4 of the key.
@@ -156,20 +225,25 @@ fn absent_values(s: &[u8], at: usize, b: usize) -> u32
     requires b_lt_presence_bytes { b < presence_bytes }
     ensures { eqb result 0 ≡ all (slot_right (part at group_bytes s.now)) (range (8 * b) 8) }
 {
-    let mut any = 0;
-    for k in 0..8 {
-        any |= absent_value(s, at, 8 * b + k);
+    let mut any: u32 = 0;
+    let mut k: usize = 0;
+    while k < 8 {
+        any = any | absent_value(s, at, 8 * b + k);
+        k += 1;
     }
     any
 }
 
-// Whether each slot of presence byte `b` that is not present is zero; where all eight are present there is nothing to read.
-fn byte_right(s: &[u8], at: usize, b: usize) -> bool
+// The same; where all eight are present there is nothing to read.
+fn absent_byte(s: &[u8], at: usize, b: usize) -> u32
     requires group_bytes_in_bounds { at + group_bytes ≤ length s.now }
     requires b_lt_presence_bytes { b < presence_bytes }
-    ensures { result ≡ all (slot_right (part at group_bytes s.now)) (range (8 * b) 8) }
+    ensures { eqb result 0 ≡ all (slot_right (part at group_bytes s.now)) (range (8 * b) 8) }
 {
-    s[at + PRESENCE_AT + b] == 0xff || absent_values(s, at, b) == 0
+    if s[at + PRESENCE_AT + b] == 0xff {
+        return 0;
+    }
+    absent_values(s, at, b)
 }
 
 // Whether each slot of the group at `at` that is not present is zero.
@@ -177,7 +251,13 @@ pub fn absent_zero(s: &[u8], at: usize) -> bool
     requires { at + group_bytes ≤ length s.now }
     ensures { result ≡ absent_zero (part at group_bytes s.now) }
 {
-    (0..PRESENCE_BYTES).all(|b| byte_right(s, at, b))
+    let mut any: u32 = 0;
+    let mut b: usize = 0;
+    while b < PRESENCE_BYTES {
+        any = any | absent_byte(s, at, b);
+        b += 1;
+    }
+    any == 0
 }
 
 // The key of a group, at `at`.
@@ -188,40 +268,40 @@ pub fn group_key(s: &mut [u8], at: usize, object: u64, number: u64)
     format::key::put_key(s, at, object, GROUP_TAG, number);
 }
 
-// Presence byte `b` of these slots.
-fn presence_byte(slots: &[Option<u32>], b: usize) -> u8
-    requires { (b < presence_bytes) × (length slots.now ≡ group_units) }
-    ensures { result ≡ byte_of 8 (present_in slots.now) (8 * b) }
+// The value that is written for slot `n`: zero where it is not present.
+fn slot_value(present: &[u8], slots: &[u32], n: usize) -> u32
+    requires present_len { (length present.now ≡ presence_bytes) × (length slots.now ≡ group_units) }
+    requires n_lt_group_units { n < group_units }
+    ensures { result ≡ value_of (get_or (slots_from present.now slots.now) n none) }
 {
-    let mut byte = 0;
-    for k in 0..8 {
-        if slots[8 * b + k].is_some() {
-            byte += 1 << k;
-        }
-    }
-    byte
-}
-
-// The presence bytes, from `at` on.
-fn put_presence(s: &mut [u8], at: usize, slots: &[Option<u32>])
-    requires at_in_bounds { at + presence_bytes ≤ length s.old }
-    requires slots_len { length slots.now ≡ group_units }
-    ensures { s.new ≡ patch s.old at (presence (said slots.now)) }
-{
-    for b in 0..PRESENCE_BYTES {
-        s[at + b] = presence_byte(slots, b);
+    if bit_at(present[n / 8], n % 8) {
+        slots[n]
+    } else {
+        0
     }
 }
 
-// The 256 slots, from `at` on: zero where one is not present.
-fn put_slots(s: &mut [u8], at: usize, slots: &[Option<u32>])
-    requires at_in_bounds { at + slot_width * group_units ≤ length s.old }
-    requires slots_len { length slots.now ≡ group_units }
-    ensures { s.new ≡ patch s.old at (flat_map slot_bytes (said slots.now)) }
+// The 256 slots, from `at` on.
+fn put_slots(s: &mut [u8], at: usize, present: &[u8], slots: &[u32])
+    requires group_units_in_bounds { at + slot_width * group_units ≤ length s.old }
+    requires present_len { (length present.now ≡ presence_bytes) × (length slots.now ≡ group_units) }
+    ensures { s.new ≡ patch s.old at (flat_map slot_bytes (slots_from present.now slots.now)) }
 {
-    for (n, slot) in slots.iter().enumerate() {
-        words::put_le32(s, at + SLOT_BYTES * n, slot.unwrap_or(0));
+    let mut i: usize = 0;
+    while i < GROUP_UNITS {
+        words::put_le32(s, at + SLOT_BYTES * i, slot_value(present, slots, i));
+        i += 1;
     }
+}
+
+// A group's value, the presence bytes and the slots, from `at` on.
+fn put_value(s: &mut [u8], at: usize, present: &[u8], slots: &[u32])
+    requires group_units_in_bounds { at + (presence_bytes + slot_width * group_units) ≤ length s.old }
+    requires present_len { (length present.now ≡ presence_bytes) × (length slots.now ≡ group_units) }
+    ensures { s.new ≡ patch s.old at (value_bytes (slots_from present.now slots.now)) }
+{
+    words::range::copy(s, at, present);
+    put_slots(s, at + PRESENCE_BYTES, present, slots);
 }
 
 // A group, at `at`.
@@ -229,7 +309,8 @@ pub fn encode_group(s: &mut [u8], at: usize, object: u64, number: u64, g: Checks
     requires { at + group_bytes ≤ length s.old }
     ensures { s.new ≡ patch s.old at (encode_group (group_of object number g)) }
 {
+    let present = g.present;
+    let slots = g.slots;
     group_key(s, at, object, number);
-    put_presence(s, at + PRESENCE_AT, &g.slots);
-    put_slots(s, at + SLOTS_AT, &g.slots);
+    put_value(s, at + PRESENCE_AT, &present, &slots);
 }

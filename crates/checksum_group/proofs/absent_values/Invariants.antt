@@ -1,7 +1,7 @@
 -- `checksum_group::absent_values` meets its contract.
 -- Assumes nothing.
 use mathlib.Core.Path.{◌≡◌}
-use Prim.Native.Nat.{◌*◌}
+use Prim.Native.Nat.{◌-◌, ◌*◌, ◌≤◌}
 use lib.Dec.{eqb}
 use Rattle.rules.specs.Lists.{range, all}
 use Rattle.rules.specs.Bytes.{part}
@@ -11,4 +11,7 @@ use Rattle.checksum_group.proofs.absent_values.Given as goal
 
 abbrev pub invariant-loop-k : goal.invariant-loop-k
 invariant-loop-k l =
-    (eqb l.any 0 ≡ all (slot_right (part l.at group_bytes l.s)) (range (8 * l.b) l.k))
+    (l.k ≤ 8) × (eqb l.any 0 ≡ all (slot_right (part l.at group_bytes l.s)) (range (8 * l.b) l.k))
+
+abbrev pub decreases-loop-k : goal.decreases-loop-k
+decreases-loop-k l = 8 - l.k

@@ -1,10 +1,14 @@
-use Rattle.std.proofs.Common.{arith}
-use mathlib.Core.Path.{ap}
-use Prim.Native.Nat.{◌+◌, ◌*◌, ℕ}
+-- `checksum_group::compact_group` meets its contract.
+-- Assumes nothing.
+use borrow.Author.Rules.{rules}
 use Rattle.checksum_group.specs.Slots.{slots_of}
-use Rattle.checksum_group.proofs.SlotLaws.{used-all}
+use Rattle.checksum_group.proofs.SlotLaws.{compact-none, compact-some}
 use Rattle.checksum_group.proofs.compact_group.Goals as goal
+
+pub returns-then-used-eq0 : goal.returns-then-used-eq0
+unfolding slots_of
+returns-then-used-eq0 c = search (compact-none, rules)
 
 pub returns : goal.returns
 unfolding slots_of
-returns c = ap (λ (x : ℕ). 32 + 4 * x) (used-all _ _ _ c.loop-n.invariant (omega arith))
+returns c = search (compact-some, rules)

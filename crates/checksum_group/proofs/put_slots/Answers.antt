@@ -1,9 +1,13 @@
-use Rattle.std.proofs.Common.{arith}
-use Rattle.checksum_group.proofs.SlotLaws.{slots-none, said-more}
+use native.Mathlib.Omega.{arith}
+use borrow.Author.Rules.{rules}
+use Rattle.checksum_group.proofs.SlotLaws.{slots-none, slots-more, slots-done}
 use Rattle.checksum_group.proofs.put_slots.Goals as goal
 
-pub loop-n-init : goal.loop-n-init
-loop-n-init c = slots-none _ _
+pub loop-i-init : goal.loop-i-init
+loop-i-init c = search (slots-none, rules)
 
-pub loop-n-preserved : goal.loop-n-preserved
-loop-n-preserved c = said-more _ _ _ _ _ _ _ c.requires.slots_len (omega arith) c.requires.at_in_bounds c.loop-n.invariant c.unwrap_or.ensures c.put_le32.ensures
+pub loop-i-preserved : goal.loop-i-preserved
+loop-i-preserved c = (omega arith, omega arith, search (slots-more, rules))
+
+pub returns : goal.returns
+returns c = search (slots-done, rules)
