@@ -192,7 +192,7 @@ fn next(m: &[u8], a: usize, e: usize, value: bool) -> Option<usize>
 }
 
 // The first set bit at or after `a`, or `e` if none before it is.
-// Kept: `e` and no `Option`: each caller goes on at the end where there is no such bit, and would write `unwrap_or(e)`.
+// Kept: `e` and no `Option`: but for `allocation` each caller goes on at the end where there is no such bit, and would write `unwrap_or(e)`.
 // Kept: `next_set` and `next_clear` are two names of `next`, as `set` and `clear` of `put`.
 pub fn next_set(m: &[u8], a: usize, e: usize) -> usize
     requires { InMap m.now a e }

@@ -5,7 +5,7 @@
 // that a word is read from for more parts of the same sum, and read them one by one.
 //
 // `difference` takes the bits of one map from another.
-// Kept: two slices at each call and no struct of them, as the callers have them as two lent buffers of the store.
+// Kept: two slices and no struct, as `intake_maps` has them beside the reserved count and `store` as buffers: it would be built at each call.
 #![tactic(auto)]
 
 pub mod difference;

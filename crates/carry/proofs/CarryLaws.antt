@@ -33,7 +33,6 @@ use Rattle.mapping.specs.Entries.{extents_in, ExtentsRight}
 use Rattle.mapping.proofs.LookupLaws.{passes-image, passes-extents-most, passes-groups}
 use Rattle.kept.specs.Change.{ChangeFits}
 use Rattle.rewrite.specs.Plan.{laid_units}
-use Rattle.kept.specs.declared.Change as numbers
 use Rattle.finish_units.specs.Carry.{UnitsFit}
 use Rattle.finish_books.specs.Buffers.{NewInside, OldInside, CardsRight}
 use Rattle.finish_books.specs.Groups.{groups_in, GroupsRight, UnitsRight}
@@ -135,18 +134,18 @@ fit_none object us bs g groups m extents made z x l =
 
 -- ---- what the parts ask for
 
-module _ {s : Store} {n m g object : ℕ} {d : numbers.Change} {bytes : List ℕ} {allocated seconds nanoseconds hint : ℕ} {us slots old kept blocks : List ℕ}
-    (r : CarryReady s n m g object d bytes allocated seconds nanoseconds hint us slots old kept blocks) where
+module _ {s : Store} {n m g object before after start : ℕ} {bytes : List ℕ} {allocated seconds nanoseconds hint : ℕ} {us slots old kept blocks : List ℕ}
+    (r : CarryReady s n m g object before after start bytes allocated seconds nanoseconds hint us slots old kept blocks) where
   -- each unit begins in the file as it will be
-  pub each-begins : (i : ℕ) → i < length us → get_or us i 0 * unit_bytes < d.new_size
+  pub each-begins : (i : ℕ) → i < length us → get_or us i 0 * unit_bytes < after
   each-begins i l = each_at r.within i 0 l
 
   -- such are the units of any change with this new size
-  within_of : (c : Change) → c.new_size ≡ d.new_size → Each (λ u. u * unit_bytes < c.new_size) us
+  within_of : (c : Change) → c.new_size ≡ after → Each (λ u. u * unit_bytes < c.new_size) us
   within_of c e = rw e r.within
 
   -- every unit but the last has all of its blocks
-  whole_of : (c : Change) → c.new_size ≡ d.new_size → AllWhole c us
+  whole_of : (c : Change) → c.new_size ≡ after → AllWhole c us
   whole_of c e = all_whole c us r.order (within_of c e)
 
   -- what the decision asks of the groups
@@ -154,7 +153,7 @@ module _ {s : Store} {n m g object : ℕ} {d : numbers.Change} {bytes : List ℕ
   groups-asked = (rw r.groups (passes-groups s r.passes), r.right)
 
   -- the arrays fit
-  units-asked : UnitsFit s.image d.new_size us slots old kept blocks
+  units-asked : UnitsFit s.image after us slots old kept blocks
   units-asked = record {
     few = r.few;
     slot_each = r.slot_each;
@@ -171,10 +170,10 @@ module _ {s : Store} {n m g object : ℕ} {d : numbers.Change} {bytes : List ℕ
   unfolding decode decode_with map_bytes
   old-asked = record { each = λ i. omega (arith, r.old_most.each i, (passes-sized s r.passes).retired, (passes-room s r.passes).blocks) }
 
-  module _ (flat : ℕ) (f : (c : Change) → c.new_size ≡ d.new_size → flat ≡ flat_blocks c us) where
+  module _ (flat : ℕ) (f : (c : Change) → c.new_size ≡ after → flat ≡ flat_blocks c us) where
     -- the blocks side by side are within the array
     flat-room : flat ≤ length blocks
-    flat-room = omega (arith, f (change_of object d bytes) refl, flat-most (change_of object d bytes) us, r.blocks_each)
+    flat-room = omega (arith, f (change_of object before after start bytes) refl, flat-most (change_of object before after start bytes) us, r.blocks_each)
 
     -- so many are taken of it
     pub flat-taken : flat ≡ length (take flat blocks)
@@ -184,18 +183,18 @@ module _ {s : Store} {n m g object : ℕ} {d : numbers.Change} {bytes : List ℕ
     pub extents-asked : ExtentsRight most_blocks m s.extents × (0 < length us → Planned object us (take flat blocks) (extents_in m s.extents))
     extents-asked = (
       rw r.extents (passes-extents-most s r.passes),
-      λ l. r.clear (take flat blocks) l (omega (arith, flat-taken, f (change_of object d bytes) refl, flat-most (change_of object d bytes) us)),
+      λ l. r.clear (take flat blocks) l (omega (arith, flat-taken, f (change_of object before after start bytes) refl, flat-most (change_of object before after start bytes) us)),
     )
 
     -- the arrays describe the units
-    described-of : (limit : ℕ) (c : Change) → c.new_size ≡ d.new_size → Describes us (take flat blocks) (laid_units limit (decode s) c us blocks)
+    described-of : (limit : ℕ) (c : Change) → c.new_size ≡ after → Describes us (take flat blocks) (laid_units limit (decode s) c us blocks)
     described-of limit c e = rw (f c e) (describes limit (decode s) c us blocks (whole_of c e) (within_of c e) (omega (arith, r.blocks_each)))
 
     -- the blocks side by side lie on the device
     flat-below : (i : ℕ) → i < flat → get_or blocks i 0 < (decode s).blocks
     unfolding blocks_after
     flat-below i l =
-        let p = flat-place (change_of object d bytes) us (whole_of (change_of object d bytes) refl) i (rw (f (change_of object d bytes) refl) at l) in
+        let p = flat-place (change_of object before after start bytes) us (whole_of (change_of object before after start bytes) refl) i (rw (f (change_of object before after start bytes) refl) at l) in
         let e : unit_blocks * (i / unit_blocks) + i % unit_blocks ≡ i = omega arith in
         rw e at (r.below (i / unit_blocks) (i % unit_blocks) p.0 p.1)
 
@@ -217,8 +216,8 @@ module _ {s : Store} {n m g object : ℕ} {d : numbers.Change} {bytes : List ℕ
         (x : Fits object us (take flat blocks) g s.groups m s.extents number left place cut count made) where
       -- all that is asked for before the change is carried out
       pub out-asked : number ≡ 0 → extent_bytes * 290 ≤ length made
-          → ChangeFits d.old_size d.new_size d.offset (length bytes)
-          × ((UnitsFit s.image d.new_size us slots old kept blocks × (flat ≤ length kept))
+          → ChangeFits before after start (length bytes)
+          × ((UnitsFit s.image after us slots old kept blocks × (flat ≤ length kept))
           × ((GroupsRight g s.groups × UnitsRight object (groups_in g s.groups) us)
           × (RoomFor object us g s.groups
           × ((NewInside (8 * length s.used) (take flat kept) (take flat blocks) × OldInside (8 * length s.retired) old)
@@ -226,11 +225,11 @@ module _ {s : Store} {n m g object : ℕ} {d : numbers.Change} {bytes : List ℕ
           × (((extent_bytes * count ≤ length made) × Written count made)
           × (((extent_bytes * (m - cut + count) ≤ length s.extents) × (m - cut + count < 2 ^ 20))
           × ((CardsRight n s.cards × (any (card_is object) (decode_book decode_card card_bytes n s.cards) ≡ true))
-          × (((d.new_size < 2 ^ 63) × (allocated < 2 ^ 35) × (seconds < 2 ^ 63) × (nanoseconds < 2 ^ 30))
+          × (((after < 2 ^ 63) × (allocated < 2 ^ 35) × (seconds < 2 ^ 63) × (nanoseconds < 2 ^ 30))
           × ((length s.head ≡ head_bytes) × (hint < 2 ^ 2) × (left < 2 ^ 20)))))))))))
       out-asked z l =
           let q : Passes s = r.passes in
-          let c : Change = change_of object d bytes in
+          let c : Change = change_of object before after start bytes in
           let rs : List Rewritten = laid_units 0 (decode s) c us blocks in
           let e : Describes us (take flat blocks) rs = described-of 0 c refl in (
             r.fits,
@@ -261,7 +260,7 @@ module _ {s : Store} {n m g object : ℕ} {d : numbers.Change} {bytes : List ℕ
             ),
           )
 
-      module _ {limit : ℕ} {c : Change} {p : Progress} {k : Plan} {uuid : List ℕ} (y : CarryFor limit s c p k uuid object d bytes allocated hint us slots old kept blocks) where
+      module _ {limit : ℕ} {c : Change} {p : Progress} {k : Plan} {uuid : List ℕ} (y : CarryFor limit s c p k uuid object before after start bytes allocated hint us slots old kept blocks) where
         -- refused, the store is left
         pub change-refused : (number ≡ 0 → ⊥)
             → numbered number s ≡ result s [] (carried_out 0 c (record { seconds = seconds; nanoseconds = nanoseconds }) s k)
@@ -272,20 +271,20 @@ module _ {s : Store} {n m g object : ℕ} {d : numbers.Change} {bytes : List ℕ
         -- the arrays tell the units
         told_of : Told (laid_units limit (decode s) c us blocks) us old (take flat kept) (take flat blocks)
         told_of =
-            let e : c.new_size ≡ d.new_size = y.carries.change.new in
+            let e : c.new_size ≡ after = y.carries.change.new in
             rw (f c e)
             (flat-told limit (decode s) c old kept blocks (whole_of c e) (within_of c e) (old-in (decode s) c.object us old y.carries.mapped)
             (kept_in limit (decode s) c us kept y.carries.keeps) (sym r.old_each) (omega (arith, r.kept_each)) (omega (arith, r.blocks_each)))
 
         -- carried out, it is the finished one
         pub change-carried : {t : Store} → number ≡ 0
-            → StoreLeft s t n m g object d.old_size d.new_size d.offset allocated seconds nanoseconds hint left place cut count flat uuid bytes us slots old kept blocks made
+            → StoreLeft s t n m g object before after start allocated seconds nanoseconds hint left place cut count flat uuid bytes us slots old kept blocks made
             → numbered 0 t ≡ result s [] (carried_out 0 c (record { seconds = seconds; nanoseconds = nanoseconds }) s k)
         unfolding result
         change-carried {t = t} z h =
             let time : Time = record { seconds = seconds; nanoseconds = nanoseconds } in
             let rs : List Rewritten = laid_units limit (decode s) c us blocks in
-            let a : PlanTold c time rs p s n m g object d.new_size allocated seconds nanoseconds hint left place cut count us old (take flat kept) (take flat blocks) made =
+            let a : PlanTold c time rs p s n m g object after allocated seconds nanoseconds hint left place cut count us old (take flat kept) (take flat blocks) made =
             plan-told c time rs p s r.passes
             (record {
               cards = r.cards;

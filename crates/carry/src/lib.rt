@@ -22,7 +22,6 @@ use finish_extents::Exchange;
 use finish_fit::Fit;
 use format::refusal::Refusal;
 use format::sizes::{BLOCK_BYTES, UNIT_BLOCKS};
-use kept::Change;
 use lent::Store;
 
 // The blocks of units side by side: every unit but the last has all of its own.
@@ -86,7 +85,9 @@ pub fn carry_change(
     g: usize,
     uuid: &[u8],
     object: u64,
-    change: Change,
+    old_size: u64,
+    new_size: u64,
+    offset: u64,
     bytes: &[u8],
     allocated: u64,
     seconds: u64,
@@ -99,12 +100,12 @@ pub fn carry_change(
     blocks: &[u32],
     made: &mut [u8],
 ) -> u32
-    requires carry_ready { CarryReady (store_of store.old) n m g object change bytes.now allocated seconds nanoseconds hint units.now slots.now old.now kept.now blocks.now }
+    requires carry_ready { CarryReady (store_of store.old) n m g object old_size new_size offset bytes.now allocated seconds nanoseconds hint units.now slots.now old.now kept.now blocks.now }
     requires extent_bytes_in_bounds { extent_bytes * 290 ≤ length made.old }
     ensures same_places { SamePlaces store.old store.new }
-    ensures carried { (limit : ℕ) (c : rules.Change) (p : rewriting.Progress) (k : rewriting.Plan) → CarryFor limit (store_of store.old) c p k uuid.now object change bytes.now allocated hint units.now slots.now old.now kept.now blocks.now → numbered result (store_of store.new) ≡ result_of (store_of store.old) [] (carried_out 0 c (record { seconds = seconds; nanoseconds = nanoseconds }) (store_of store.old) k) }
+    ensures carried { (limit : ℕ) (c : rules.Change) (p : rewriting.Progress) (k : rewriting.Plan) → CarryFor limit (store_of store.old) c p k uuid.now object old_size new_size offset bytes.now allocated hint units.now slots.now old.now kept.now blocks.now → numbered result (store_of store.new) ≡ result_of (store_of store.old) [] (carried_out 0 c (record { seconds = seconds; nanoseconds = nanoseconds }) (store_of store.old) k) }
 {
-    let flat = flat_blocks(change.new_size, units);
+    let flat = flat_blocks(new_size, units);
     let fit = match fit_change(store, m, g, object, units, &blocks[..flat], made) {
         Ok(fit) => fit,
         Err(r) => return r.number(),
@@ -116,9 +117,9 @@ pub fn carry_change(
         g,
         uuid,
         object,
-        change.old_size,
-        change.new_size,
-        change.offset,
+        old_size,
+        new_size,
+        offset,
         bytes,
         allocated,
         seconds,

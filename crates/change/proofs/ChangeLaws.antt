@@ -106,7 +106,7 @@ module _ (s : Store) (object : ℕ) (d : numbers.Change) (bytes : List ℕ) (all
     (r : ChangeReady s object d bytes allocated seconds nanoseconds us) where
   -- the change
   abbrev c : Change
-  c = change_of object d bytes
+  c = change_of object d.old_size d.new_size d.offset bytes
 
   -- there is room for its plan
   pub plan-room : (slots old kept blocks : List ℕ) → ArraysEach us slots old kept blocks → PlanRoom d.new_size us slots old kept blocks
@@ -197,7 +197,7 @@ module _ (s : Store) (object : ℕ) (d : numbers.Change) (bytes : List ℕ) (all
             (settled.plan ∙ ap (λ (k : ℕ). planned (laid_units limit (decode s) c (drop k us) (drop (unit_blocks * q.skip) blocks)) settled.left) o)) rests)
 
         -- what must be known before it is decided whether the books fit
-        pub carry-ready : CarryReady s n m g object d bytes q.allocated seconds nanoseconds q.hint vs (drop q.skip slots) (drop (unit_blocks * q.skip) old)
+        pub carry-ready : CarryReady s n m g object d.old_size d.new_size d.offset bytes q.allocated seconds nanoseconds q.hint vs (drop q.skip slots) (drop (unit_blocks * q.skip) old)
             (drop (unit_blocks * q.skip) kept) (drop (unit_blocks * q.skip) blocks)
         carry-ready =
             let y : ArraysEach vs (drop q.skip slots) (drop (unit_blocks * q.skip) old) (drop (unit_blocks * q.skip) kept) (drop (unit_blocks * q.skip) blocks) =
@@ -233,7 +233,7 @@ module _ (s : Store) (object : ℕ) (d : numbers.Change) (bytes : List ℕ) (all
             }
 
         -- the arrays tell of the change, and its plan is that of the rest
-        pub carry-for : CarryFor limit s c settled.left (plan limit) uuid object d bytes q.allocated q.hint vs (drop q.skip slots) (drop (unit_blocks * q.skip) old)
+        pub carry-for : CarryFor limit s c settled.left (plan limit) uuid object d.old_size d.new_size d.offset bytes q.allocated q.hint vs (drop q.skip slots) (drop (unit_blocks * q.skip) old)
             (drop (unit_blocks * q.skip) kept) (drop (unit_blocks * q.skip) blocks)
         carry-for = record {
           carries = record {
@@ -257,7 +257,7 @@ module _ (s : Store) (object : ℕ) (d : numbers.Change) (bytes : List ℕ) (all
 
         -- what becomes of the rest becomes of the change
         pub change-carried : (number : ℕ) (t : Store)
-            → ((l : ℕ) (e : Change) (p : Progress) (k : Plan) → CarryFor l s e p k uuid object d bytes q.allocated q.hint vs (drop q.skip slots) (drop (unit_blocks * q.skip) old)
+            → ((l : ℕ) (e : Change) (p : Progress) (k : Plan) → CarryFor l s e p k uuid object d.old_size d.new_size d.offset bytes q.allocated q.hint vs (drop q.skip slots) (drop (unit_blocks * q.skip) old)
             (drop (unit_blocks * q.skip) kept) (drop (unit_blocks * q.skip) blocks)
             → numbered number t ≡ result s [] (carried_out 0 e (record { seconds = seconds; nanoseconds = nanoseconds }) s k))
             → numbered number t ≡ changed limit s object d bytes allocated seconds nanoseconds us
@@ -265,7 +265,7 @@ module _ (s : Store) (object : ℕ) (d : numbers.Change) (bytes : List ℕ) (all
 
         module _ (nu ns no nk nb : ℕ) (x : length us ≡ nu) (y : length slots ≡ ns) (o : length old ≡ no) (k : length kept ≡ nk) (w : length blocks ≡ nb) where
           -- the same for slices up to the ends
-          pub carry-ready' : CarryReady s n m g object d bytes q.allocated seconds nanoseconds q.hint (take (nu - q.skip) (drop q.skip us)) (take (ns - q.skip) (drop q.skip slots))
+          pub carry-ready' : CarryReady s n m g object d.old_size d.new_size d.offset bytes q.allocated seconds nanoseconds q.hint (take (nu - q.skip) (drop q.skip us)) (take (ns - q.skip) (drop q.skip slots))
               (take (no - unit_blocks * q.skip) (drop (unit_blocks * q.skip) old)) (take (nk - unit_blocks * q.skip) (drop (unit_blocks * q.skip) kept))
               (take (nb - unit_blocks * q.skip) (drop (unit_blocks * q.skip) blocks))
           carry-ready' =
@@ -274,7 +274,7 @@ module _ (s : Store) (object : ℕ) (d : numbers.Change) (bytes : List ℕ) (all
 
           -- and of what becomes of the change
           pub change-carried' : (number : ℕ) (t : Store)
-              → ((l : ℕ) (e : Change) (p : Progress) (z : Plan) → CarryFor l s e p z uuid object d bytes q.allocated q.hint (take (nu - q.skip) (drop q.skip us))
+              → ((l : ℕ) (e : Change) (p : Progress) (z : Plan) → CarryFor l s e p z uuid object d.old_size d.new_size d.offset bytes q.allocated q.hint (take (nu - q.skip) (drop q.skip us))
               (take (ns - q.skip) (drop q.skip slots)) (take (no - unit_blocks * q.skip) (drop (unit_blocks * q.skip) old))
               (take (nk - unit_blocks * q.skip) (drop (unit_blocks * q.skip) kept)) (take (nb - unit_blocks * q.skip) (drop (unit_blocks * q.skip) blocks))
               → numbered number t ≡ result s [] (carried_out 0 e (record { seconds = seconds; nanoseconds = nanoseconds }) s z))

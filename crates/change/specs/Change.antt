@@ -46,7 +46,7 @@ pub record ChangeReady (s : Store) (object : ℕ) (n : numbers.Change) (bytes : 
   pub fits : ChangeFits n.old_size n.new_size n.offset n.len
   pub early : seconds < 2 ^ 63
   pub part : nanoseconds < 2 ^ 30
-  pub units : ChangeUnits (change_of object n bytes) us
+  pub units : ChangeUnits (change_of object n.old_size n.new_size n.offset bytes) us
 
 -- the head's numbers of records, its hint and the uuid
 pub record HeadSays (s : Store) (n m g hint : ℕ) (uuid : List ℕ) : Type 0 where
@@ -66,5 +66,5 @@ pub record ArraysEach (us slots old kept blocks : List ℕ) : Type 0 where
 -- what becomes of it
 abbrev pub changed : (limit : ℕ) (s : Store) (object : ℕ) (n : numbers.Change) (bytes : List ℕ) (allocated seconds nanoseconds : ℕ) (us : List ℕ) → Result
 changed limit s object n bytes allocated seconds nanoseconds us =
-    result s [] (carried_out 0 (change_of object n bytes) (record { seconds = seconds; nanoseconds = nanoseconds }) s
-    (rewrite_units limit (decode s) (change_of object n bytes) us (from_card (decode s).hint allocated)))
+    result s [] (carried_out 0 (change_of object n.old_size n.new_size n.offset bytes) (record { seconds = seconds; nanoseconds = nanoseconds }) s
+    (rewrite_units limit (decode s) (change_of object n.old_size n.new_size n.offset bytes) us (from_card (decode s).hint allocated)))

@@ -3,15 +3,22 @@
 // The plan stores nothing, and whether the books that it leaves fit is known before anything is stored: a refused change leaves every byte as it was.
 #![tactic(auto)]
 
-ghost use Rattle.std.specs.Prelude.{◌≡◌, ◌*◌, ◌≤◌, length};
+ghost use Rattle.std.specs.Prelude.{◌≡◌, ◌*◌, ◌/◌, ◌≤◌, length};
+ghost use Rattle.rules.specs.Sizes.{block_bytes, most_allocated};
 ghost use Rattle.rules.specs.Extent.{extent_bytes};
+ghost use Rattle.rules.specs.Store.{Volume};
+ghost use Rattle.rules.specs.Units as rules;
 ghost use Rattle.lent.specs.Lent.{store_of, SamePlaces};
+ghost use Rattle.kept.specs.Change.{ChangeFits};
+ghost use Rattle.rewrite.specs.Arguments.{BlocksOf};
 ghost use Rattle.file.specs.Change.{numbered};
+ghost use Rattle.file.specs.Planned.{PlanReady, PlanRoom, ChangeFor, ChangePlanned};
 ghost use Rattle.change.specs.Change.{ChangeReady, HeadSays, ArraysEach, changed};
 
 use format::sizes::UNIT_BLOCKS;
 use kept::Change;
 use lent::Store;
+use rewrite::Plan;
 
 // Units of a change at most: those that a write of the most bytes touches, and the old tail unit before them.
 const MOST_UNITS: usize = 18;
@@ -21,6 +28,52 @@ const MOST_BLOCKS: usize = 288;
 
 // Bytes of the extents that a change puts in at most: one for each block, and the two ends of what it cuts.
 const MADE_BYTES: usize = 9570;
+
+// The plan of a change, from the store's buffers.
+fn plan_change(
+    store: &Store<'_>,
+    uuid: &[u8],
+    e: usize,
+    g: usize,
+    limit: usize,
+    object: u64,
+    change: Change,
+    units: &[u64],
+    slots: &mut [u64],
+    old: &mut [u32],
+    kept: &mut [u32],
+    blocks: &mut [u32],
+    hint: u64,
+    allocated: u64,
+) -> Plan
+    requires plan_ready { PlanReady store.now.image.now store.now.extents.now store.now.groups.now store.now.used.now e g }
+    requires change_fits { ChangeFits change.old_size change.new_size change.offset change.len }
+    requires plan_room { PlanRoom change.new_size units.now slots.old old.old kept.old blocks.old }
+    requires allocated_le_most_allocated { allocated ≤ most_allocated }
+    ensures skip_in_bounds { (result.skip ≤ length units.now) × (result.allocated ≤ most_allocated) }
+    ensures blocks_of { BlocksOf (length store.now.image.now / block_bytes) old.new }
+    ensures change_planned { (v : Volume) (c : rules.Change) → ChangeFor store.now.image.now uuid.now store.now.extents.now store.now.groups.now store.now.used.now e g object change units.now v c → ChangePlanned limit v c units.now hint allocated slots.new old.new kept.new blocks.new result }
+{
+    file::plan::plan_change(
+        store.image,
+        uuid,
+        store.extents,
+        e,
+        store.groups,
+        g,
+        store.used,
+        limit,
+        object,
+        change,
+        units,
+        slots,
+        old,
+        kept,
+        blocks,
+        hint,
+        allocated,
+    )
+}
 
 // The plan of a change in the lent arrays, and what becomes of it. The head counts `n` cards, `m` extents and `g` groups.
 fn change_units(
@@ -50,7 +103,7 @@ fn change_units(
     ensures same_places { SamePlaces store.old store.new }
     ensures changed { numbered result (store_of store.new) ≡ changed limit (store_of store.old) object change bytes.now allocated seconds nanoseconds units.now }
 {
-    let plan = file::plan::plan_change(
+    let plan = plan_change(
         store, uuid, m, g, limit, object, change, units, slots, old, kept, blocks, hint, allocated,
     );
     if plan.number != 0 {
@@ -65,7 +118,9 @@ fn change_units(
         g,
         uuid,
         object,
-        change,
+        change.old_size,
+        change.new_size,
+        change.offset,
         bytes,
         plan.allocated,
         seconds,

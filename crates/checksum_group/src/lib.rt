@@ -121,12 +121,10 @@ pub fn set_checksum_slot(g: ChecksumGroup, n: usize, slot: Option<u32>) -> Check
 fn bytes_used(present: &[u8; PRESENCE_BYTES]) -> usize
     ensures { UpTo present.now result }
 {
-    let mut i: usize = PRESENCE_BYTES;
-    while 0 < i {
-        if present[i - 1] != 0 {
-            return i;
+    for i in (0..PRESENCE_BYTES).rev() {
+        if present[i] != 0 {
+            return i + 1;
         }
-        i -= 1;
     }
     0
 }
@@ -173,10 +171,8 @@ fn read_slots(s: &[u8], at: usize) -> [u32; GROUP_UNITS]
     ensures { result ≡ values_at s.now at }
 {
     let mut slots = [0u32; GROUP_UNITS];
-    let mut i: usize = 0;
-    while i < GROUP_UNITS {
+    for i in 0..GROUP_UNITS {
         slots[i] = words::le32(s, at + SLOT_BYTES * i);
-        i += 1;
     }
     slots
 }
@@ -226,10 +222,8 @@ fn absent_values(s: &[u8], at: usize, b: usize) -> u32
     ensures { eqb result 0 ≡ all (slot_right (part at group_bytes s.now)) (range (8 * b) 8) }
 {
     let mut any: u32 = 0;
-    let mut k: usize = 0;
-    while k < 8 {
+    for k in 0..8 {
         any = any | absent_value(s, at, 8 * b + k);
-        k += 1;
     }
     any
 }
@@ -252,10 +246,8 @@ pub fn absent_zero(s: &[u8], at: usize) -> bool
     ensures { result ≡ absent_zero (part at group_bytes s.now) }
 {
     let mut any: u32 = 0;
-    let mut b: usize = 0;
-    while b < PRESENCE_BYTES {
+    for b in 0..PRESENCE_BYTES {
         any = any | absent_byte(s, at, b);
-        b += 1;
     }
     any == 0
 }
@@ -287,10 +279,8 @@ fn put_slots(s: &mut [u8], at: usize, present: &[u8], slots: &[u32])
     requires present_len { (length present.now ≡ presence_bytes) × (length slots.now ≡ group_units) }
     ensures { s.new ≡ patch s.old at (flat_map slot_bytes (slots_from present.now slots.now)) }
 {
-    let mut i: usize = 0;
-    while i < GROUP_UNITS {
+    for i in 0..GROUP_UNITS {
         words::put_le32(s, at + SLOT_BYTES * i, slot_value(present, slots, i));
-        i += 1;
     }
 }
 

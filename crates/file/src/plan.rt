@@ -10,7 +10,6 @@ ghost use Rattle.file.specs.Planned.{PlanReady, PlanRoom, ChangeFor, UnitsSettle
 
 use format::sizes::BLOCK_BYTES;
 use kept::Change;
-use lent::Store;
 use rewrite::Plan;
 
 // Bytes of the map of the most blocks.
@@ -69,10 +68,13 @@ fn plan_units(
 // The plan of a change of the file of `object`: the blocks and the checksums of its units looked up into `old` and `slots`, and what each keeps
 // and its blocks put into `kept` and `blocks`. Only the first unit may be an untouched hole.
 pub fn plan_change(
-    store: &Store<'_>,
+    image: &[u8],
     uuid: &[u8],
+    extents: &[u8],
     e: usize,
+    groups: &[u8],
     g: usize,
+    used: &[u8],
     limit: usize,
     object: u64,
     change: Change,
@@ -84,29 +86,17 @@ pub fn plan_change(
     hint: u64,
     allocated: u64,
 ) -> Plan
-    requires plan_ready { PlanReady store.now.image.now store.now.extents.now store.now.groups.now store.now.used.now e g }
+    requires plan_ready { PlanReady image.now extents.now groups.now used.now e g }
     requires change_fits { ChangeFits change.old_size change.new_size change.offset change.len }
     requires plan_room { PlanRoom change.new_size units.now slots.old old.old kept.old blocks.old }
     requires allocated_le_most_allocated { allocated ≤ most_allocated }
     ensures skip_in_bounds { (result.skip ≤ length units.now) × (result.allocated ≤ most_allocated) }
-    ensures blocks_of { BlocksOf (length store.now.image.now / block_bytes) old.new }
-    ensures change_planned { (v : Volume) (c : rules.Change) → ChangeFor store.now.image.now uuid.now store.now.extents.now store.now.groups.now store.now.used.now e g object change units.now v c → ChangePlanned limit v c units.now hint allocated slots.new old.new kept.new blocks.new result }
+    ensures blocks_of { BlocksOf (length image.now / block_bytes) old.new }
+    ensures change_planned { (v : Volume) (c : rules.Change) → ChangeFor image.now uuid.now extents.now groups.now used.now e g object change units.now v c → ChangePlanned limit v c units.now hint allocated slots.new old.new kept.new blocks.new result }
 {
-    crate::lookup::unit_blocks(store.extents, e, object, units, old);
-    crate::lookup::unit_checksums(store.groups, g, object, units, slots);
+    crate::lookup::unit_blocks(extents, e, object, units, old);
+    crate::lookup::unit_checksums(groups, g, object, units, slots);
     plan_units(
-        store.image,
-        uuid,
-        store.used,
-        limit,
-        object,
-        change,
-        units,
-        slots,
-        old,
-        kept,
-        blocks,
-        hint,
-        allocated,
+        image, uuid, used, limit, object, change, units, slots, old, kept, blocks, hint, allocated,
     )
 }

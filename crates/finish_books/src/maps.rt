@@ -9,7 +9,6 @@ ghost use Rattle.mapping.specs.Entries.{entries};
 ghost use Rattle.finish_books.specs.Buffers.{new_of, gone_at, marked_if, NewInside, OldInside};
 
 // The block at place `f` used, if it is new.
-// Kept: 0 is none in the arrays of entries that mapping fills and that image and file are lent too.
 fn mark_new(used: &mut [u8], kept: &[u32], blocks: &[u32], f: usize)
     requires f_in_bounds { (f < length kept.now) × (length kept.now ≡ length blocks.now) }
     requires new_inside { NewInside (8 * length used.old) kept.now blocks.now }
@@ -32,7 +31,6 @@ pub fn mark_used(used: &mut [u8], kept: &[u32], blocks: &[u32])
 }
 
 // Whether an old block stood at place `f` and nothing is kept there.
-// Kept: 0 is none in the arrays of entries that mapping fills and that image and file are lent too.
 #[tactic(auto, unfolding(crate::specs::Buffers::gone_at))]
 fn gone(old: &[u32], kept: &[u32], f: usize) -> bool
     requires { f < length old.now }

@@ -24,7 +24,6 @@ use kept::Change;
 
 // How many old bytes a unit is put together from: all that are valid where they were read and checked, none where they were not read or the unit was
 // a hole, which has no checksum.
-// Kept: 0 is no checksum in the array of slots that mapping fills and that inspect is lent too.
 fn held_bytes(change: Change, unit: u64, slot: u64) -> usize
     requires { unit * unit_bytes ≤ most_size }
     ensures { (c : rules.Change) (after : ℕ) → IsChange c change.old_size after change.offset change.len → result ≡ held_count c unit slot }

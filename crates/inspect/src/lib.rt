@@ -131,7 +131,7 @@ fn feed_blocks(
 {
     let mut fed = state;
     let mut i: usize = 0;
-    // Kept: the place jumps to where a run ends, which the entries say.
+    // The place jumps to where a run ends, which the entries say.
     while i < n {
         let e = run_end(blocks, i, n);
         fed = feed_run(t, w, fed, image, blocks, n, valid, i, e);

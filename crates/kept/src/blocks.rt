@@ -8,7 +8,6 @@ ghost use Rattle.kept.specs.Blocks.{superseded_at};
 use super::block_of;
 
 // 1 for an entry that is none, 0 for one that is kept.
-// Kept: 0 is none in the arrays of entries that mapping fills and that image and file are lent too.
 fn missing(entry: u32) -> usize
     ensures { (result ≡ wanted (entry_of entry ∷ [])) × (result ≤ 1) }
 {
@@ -16,7 +15,6 @@ fn missing(entry: u32) -> usize
 }
 
 // The blocks that a unit wants anew: one for each of its entries that is none.
-// Kept: 0 is none in the arrays of entries that mapping fills and that image and file are lent too.
 pub fn wanted(kept: &[u32]) -> usize
     ensures { (result ≡ wanted (entries kept.now)) × (result ≤ length kept.now) }
 {
@@ -49,7 +47,6 @@ pub fn assign(kept: &[u32], new: &[u64], blocks: &mut [u32])
 }
 
 // Whether the old unit had a block in this entry, and the new one, which has those of `kept`, keeps none at place `i`.
-// Kept: 0 is none in the arrays of entries that mapping fills and that image and file are lent too.
 #[tactic(auto, unfolding(crate::specs::Blocks::superseded_at))]
 pub fn is_superseded(entry: u32, kept: &[u32], i: usize) -> bool
     ensures { result ≡ superseded_at entry kept.now i }

@@ -71,7 +71,6 @@ impl Change {
         ensures { kept.new ≡ candidate_entries settled self.offset (self.offset + self.len) start (length kept.old) old.now }
     {
         for (i, entry) in kept.iter_mut().enumerate() {
-            // Kept: an entry is a number with 0 for none in the arrays that mapping fills and that image and file are lent too.
             *entry = if self.is_intact(settled, start, i) {
                 old[i]
             } else {

@@ -32,7 +32,6 @@ impl Change {
 }
 
 // The block that an entry stands for.
-// Kept: an entry is a number, 0 for none and else one more than its block, in the arrays that mapping fills and that image and file are lent too.
 fn block_of(entry: u32) -> Option<u32>
     ensures { MatchOption result (entry ≡ 0) (λ block. block + 1 ≡ entry) }
 {

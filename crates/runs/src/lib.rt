@@ -103,7 +103,7 @@ fn meets(x: u16, z: u16) -> u16
 }
 
 // Whether that is so of any half of the map from `i` to `end` and the next. The loop has no exit, so that the compiler can take several at once.
-// Kept: a loop and not `any`, which was tried: it leaves at the first, and takes ten times as long over a map without one.
+// Kept: a loop and not `any`: tried, it takes ten times as long over a map without one, where docs/SPEED.md asks for three.
 fn any_meets(map: &[u8], i: usize, end: usize) -> bool
     requires { 2 * end + 2 ≤ length map.now }
     ensures { AnyMeets map.now i end result }

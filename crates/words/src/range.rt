@@ -35,7 +35,7 @@ pub fn is_zero(s: &[u8], a: usize, e: usize) -> bool
     requires { (a ≤ e) × (e ≤ length s.now) }
     ensures { result ≡ all_zero (part a (e - a) s.now) }
 {
-    // Kept: a fold and not `all`, as an exit at each byte would keep the compiler from taking many at a time.
+    // A fold and not `all`, as an exit at each byte would keep the compiler from taking many at a time.
     s[a..e].iter().fold(0, |any, x| any | *x) == 0
 }
 

@@ -50,8 +50,8 @@ module _ (s : Store) (object size allocated offset : ℕ) (bytes : List ℕ) (se
   code = record { old_size = size; new_size = new; offset = offset; len = length bytes; fits = fits }
 
   -- the units that were written down are the change's
-  units-are : us ≡ write_units (change_of object code bytes)
-  units-are = u (change_of object code bytes) (record { old = refl; new = refl; from = refl; written = refl })
+  units-are : us ≡ write_units (change_of object code.old_size code.new_size code.offset bytes)
+  units-are = u (change_of object code.old_size code.new_size code.offset bytes) (record { old = refl; new = refl; from = refl; written = refl })
 
   -- what the change asks for
   pub write-ready : FileReady s object size allocated → Taken offset bytes → TimeFits seconds nanoseconds → ChangeReady s object code bytes allocated seconds nanoseconds us
@@ -67,7 +67,7 @@ module _ (s : Store) (object size allocated offset : ℕ) (bytes : List ℕ) (se
     fits = fits;
     early = h.early;
     part = h.part;
-    units = rw units-are (units-write (change_of object code bytes) t.some' t.few (unfold change_end in q));
+    units = rw units-are (units-write (change_of object code.old_size code.new_size code.offset bytes) t.some' t.few (unfold change_end in q));
   }
 
   -- what becomes of it

@@ -61,7 +61,7 @@ pub fn grow_file(
     ensures same_places { SamePlaces store.old store.new }
     ensures grown { answered result 0 (store_of store.new) ≡ result_of (store_of store.old) [] (grow_outcome object size (record { seconds = seconds; nanoseconds = nanoseconds }) (store_of store.old)) }
 {
-    let Some(file) = super::find::find_file(store, object) else {
+    let Some(file) = super::find::find_in(store, object) else {
         return Refusal::NoCard.number();
     };
     let old_size = file.size;

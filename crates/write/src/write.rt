@@ -118,7 +118,7 @@ pub fn write_file(
     ensures same_places { SamePlaces store.old store.new }
     ensures written { answered result.number result.count (store_of store.new) ≡ result_of (store_of store.old) [] (write_outcome limit object offset bytes.now (record { seconds = seconds; nanoseconds = nanoseconds }) (store_of store.old)) }
 {
-    let Some(file) = super::find::find_file(store, object) else {
+    let Some(file) = super::find::find_in(store, object) else {
         return Done {
             number: Refusal::NoCard.number(),
             count: 0,

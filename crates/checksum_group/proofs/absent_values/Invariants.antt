@@ -12,6 +12,3 @@ use Rattle.checksum_group.proofs.absent_values.Given as goal
 abbrev pub invariant-loop-k : goal.invariant-loop-k
 invariant-loop-k l =
     (l.k ≤ 8) × (eqb l.any 0 ≡ all (slot_right (part l.at group_bytes l.s)) (range (8 * l.b) l.k))
-
-abbrev pub decreases-loop-k : goal.decreases-loop-k
-decreases-loop-k l = 8 - l.k

@@ -12,6 +12,3 @@ use Rattle.checksum_group.proofs.absent_zero.Given as goal
 abbrev pub invariant-loop-b : goal.invariant-loop-b
 invariant-loop-b l =
     (l.b ≤ 32) × (eqb l.any 0 ≡ all (slot_right (part l.at group_bytes l.s)) (range 0 (8 * l.b)))
-
-abbrev pub decreases-loop-b : goal.decreases-loop-b
-decreases-loop-b l = 32 - l.b

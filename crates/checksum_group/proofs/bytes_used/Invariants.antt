@@ -7,6 +7,3 @@ use Rattle.checksum_group.proofs.bytes_used.Given as goal
 
 abbrev pub invariant-loop-i : goal.invariant-loop-i
 invariant-loop-i l = (l.i ≤ 32) × ((k : ℕ) → l.i ≤ k → k < 32 → get_or l.present k 0 ≡ 0)
-
-abbrev pub decreases-loop-i : goal.decreases-loop-i
-decreases-loop-i l = l.i

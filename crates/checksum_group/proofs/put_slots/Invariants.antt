@@ -12,6 +12,3 @@ use Rattle.checksum_group.proofs.put_slots.Given as goal
 abbrev pub invariant-loop-i : goal.invariant-loop-i
 invariant-loop-i l =
     (l.i ≤ 256) × (length l.s ≡ length l.initial.s) × (l.s ≡ patch l.initial.s l.at (flat_map slot_bytes (take l.i (slots_from l.present l.slots))))
-
-abbrev pub decreases-loop-i : goal.decreases-loop-i
-decreases-loop-i l = 256 - l.i

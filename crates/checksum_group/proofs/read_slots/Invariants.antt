@@ -9,6 +9,3 @@ use Rattle.checksum_group.proofs.read_slots.Given as goal
 abbrev pub invariant-loop-i : goal.invariant-loop-i
 invariant-loop-i l =
     (l.i ≤ 256) × (length l.slots ≡ 256) × ((k : ℕ) → k < l.i → get_or l.slots k 0 ≡ le (part (l.at + 4 * k) 4 l.s))
-
-abbrev pub decreases-loop-i : goal.decreases-loop-i
-decreases-loop-i l = 256 - l.i

@@ -9,8 +9,8 @@ use Rattle.write.proofs.FindLaws.{find-ready}
 use Rattle.write.proofs.GrowLaws.{grow-missing, grow-refused, grow-same, the-file, larger-ready, larger-done}
 use Rattle.write.proofs.grow.grow_file.Goals as goal
 
-pub find_file-requires : goal.find_file-requires
-find_file-requires c = find-ready _ c.requires
+pub find_in-requires : goal.find_in-requires
+find_in-requires c = find-ready _ c.requires
 
 pub returns-in_default-clause-grown : goal.returns-in_default-clause-grown
 returns-in_default-clause-grown c = grow-missing _ c.requires _ _ _ _ c.in_default.ensures

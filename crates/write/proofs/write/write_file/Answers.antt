@@ -5,8 +5,8 @@ use Rattle.write.proofs.FindLaws.{find-ready}
 use Rattle.write.proofs.WriteLaws.{file-missing, file-ready}
 use Rattle.write.proofs.write.write_file.Goals as goal
 
-pub find_file-requires : goal.find_file-requires
-find_file-requires c = find-ready _ c.requires
+pub find_in-requires : goal.find_in-requires
+find_in-requires c = find-ready _ c.requires
 
 pub returns-in_default-clause-written : goal.returns-in_default-clause-written
 returns-in_default-clause-written c = file-missing _ c.requires _ c.in_default.ensures _ _ _ _ _
