@@ -17,7 +17,7 @@ use Rattle.mapping.specs.Entries.{extents_in}
 use Rattle.finish_books.specs.Groups.{groups_in}
 use Rattle.finish_extents.specs.Stretch.{Describes, Finished}
 use Rattle.finish_extents.proofs.ExchangeLaws.{finished-number}
-use Rattle.finish_fit.specs.Fits.{extents_number, groups_number, Exchanges, ExtentsFit, Fits}
+use Rattle.finish_fit.specs.Fits.{extents_number, groups_number, Exchanges, ExtentsDecided, Fits}
 
 -- ---- the numbers
 
@@ -55,7 +55,7 @@ exchanges-of object us bs m book place cut count made l k f = record {
 
 -- there are too few places for them
 pub extents-full : (object : ℕ) (us bs : List ℕ) (m : ℕ) (book : List ℕ) (place cut count : ℕ) (made : List ℕ) → place + cut ≤ m → count ≤ 290
-    → Finished object us bs (extents_in m book) place (place + cut) count made → length book / 33 < m - cut + count → ExtentsFit object us bs m book 16 0 0 0 made
+    → Finished object us bs (extents_in m book) place (place + cut) count made → length book / 33 < m - cut + count → ExtentsDecided object us bs m book 16 0 0 0 made
 unfolding book_places
 extents-full object us bs m book place cut count made l k f h =
     let x : Exchanges object us bs m book place cut count made = exchanges-of object us bs m book place cut count made l k f in
@@ -66,7 +66,7 @@ extents-full object us bs m book place cut count made l k f h =
 
 -- there are enough
 pub extents-fit : (object : ℕ) (us bs : List ℕ) (m : ℕ) (book : List ℕ) (place cut count : ℕ) (made : List ℕ) → place + cut ≤ m → count ≤ 290
-    → Finished object us bs (extents_in m book) place (place + cut) count made → m - cut + count ≤ length book / 33 → ExtentsFit object us bs m book 0 place cut count made
+    → Finished object us bs (extents_in m book) place (place + cut) count made → m - cut + count ≤ length book / 33 → ExtentsDecided object us bs m book 0 place cut count made
 unfolding book_places
 extents-fit object us bs m book place cut count made l k f h =
     let x : Exchanges object us bs m book place cut count made = exchanges-of object us bs m book place cut count made l k f in
@@ -93,7 +93,7 @@ module _ (object : ℕ) (us bs : List ℕ) (g : ℕ) (groups : List ℕ) (m : �
 
   -- there are enough, and the extents decide
   pub books-fit : (number left place cut count : ℕ) (made : List ℕ) → 1073 * g ≤ length groups → missing ≤ length groups / 1073 - g → (number ≡ 0 → left ≡ g + missing)
-      → ExtentsFit object us bs m extents number place cut count made → Fits object us bs g groups m extents number left place cut count made
+      → ExtentsDecided object us bs m extents number place cut count made → Fits object us bs g groups m extents number left place cut count made
   unfolding book_places
   books-fit number left place cut count made l q e f =
       let a : g + missing ≤ length groups / 1073 = omega arith in

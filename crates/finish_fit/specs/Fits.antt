@@ -32,14 +32,14 @@ pub record Exchanges (object : ℕ) (us bs : List ℕ) (m : ℕ) (book : List �
   pub told : (rs : List Rewritten) → Describes us bs rs → m - cut + count ≡ length (finished_extents object rs (extents_in m book))
 
 -- the number says whether the finished extents fit
-pub record ExtentsFit (object : ℕ) (us bs : List ℕ) (m : ℕ) (book : List ℕ) (number place cut count : ℕ) (made : List ℕ) : Type 0 where
+pub record ExtentsDecided (object : ℕ) (us bs : List ℕ) (m : ℕ) (book : List ℕ) (number place cut count : ℕ) (made : List ℕ) : Type 0 where
   pub decided : (rs : List Rewritten) → Describes us bs rs → number ≡ extents_number (book_places extent_bytes book) (length (finished_extents object rs (extents_in m book)))
   pub exchanges : number ≡ 0 → Exchanges object us bs m book place cut count made
 
 -- the answer of the code to it: a refusal, whose number it is, or the exchange, and the number is 0
 abbrev pub ExtentsAnswer : (object : ℕ) (us bs : List ℕ) (m : ℕ) (book : List ℕ) → Result Exchange Refusal → (made : List ℕ) → Type 0
-ExtentsAnswer object us bs m book (Ok x) made = ExtentsFit object us bs m book 0 x.place x.cut x.count made
-ExtentsAnswer object us bs m book (Err r) made = ExtentsFit object us bs m book (number_of (refusal_of r)) 0 0 0 made
+ExtentsAnswer object us bs m book (Ok x) made = ExtentsDecided object us bs m book 0 x.place x.cut x.count made
+ExtentsAnswer object us bs m book (Err r) made = ExtentsDecided object us bs m book (number_of (refusal_of r)) 0 0 0 made
 
 -- the number says whether the finished groups fit into a book of g, and the finished extents into one of m; with 0 left is how many groups there are then
 pub record Fits (object : ℕ) (us bs : List ℕ) (g : ℕ) (groups : List ℕ) (m : ℕ) (extents : List ℕ) (number left place cut count : ℕ) (made : List ℕ) : Type 0 where
