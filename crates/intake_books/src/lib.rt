@@ -75,7 +75,7 @@ pub fn cards_right(s: &[u8], n: usize) -> bool
     requires { card_bytes * n ≤ length s.now }
     ensures { result ≡ cards_right n s.now }
 {
-    if !book::order::cards_packed(s, n) {
+    if !book::order::packed(s, CARD_BYTES, n) {
         return false;
     }
     cards_kept(s, n)
@@ -137,7 +137,7 @@ pub fn extents_right(s: &[u8], n: usize, blocks: u64) -> bool
     requires { extent_bytes * n ≤ length s.now }
     ensures { result ≡ extents_right blocks n s.now }
 {
-    if !book::order::extents_packed(s, n) {
+    if !book::order::packed(s, EXTENT_BYTES, n) {
         return false;
     }
     extents_kept(s, n, blocks)
@@ -188,7 +188,7 @@ pub fn groups_right(s: &[u8], n: usize) -> bool
     requires { group_bytes * n ≤ length s.now }
     ensures { result ≡ groups_right n s.now }
 {
-    if !book::order::groups_packed(s, n) {
+    if !book::order::packed(s, GROUP_BYTES, n) {
         return false;
     }
     groups_kept(s, n)

@@ -4,8 +4,8 @@ use borrow.Author.Rules.{rules}
 use Rattle.intake_books.proofs.BookRules.{groups-tail, groups-left}
 use Rattle.intake_books.proofs.groups_right.Goals as goal
 
-pub returns-then-not-groups_packed : goal.returns-then-not-groups_packed
-returns-then-not-groups_packed c = search (groups-tail, rules)
+pub returns-then-not-packed : goal.returns-then-not-packed
+returns-then-not-packed c = search (groups-tail, rules)
 
 pub returns : goal.returns
 returns c = search (groups-left, rules)
