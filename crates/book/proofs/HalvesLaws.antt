@@ -25,7 +25,7 @@ use Rattle.checksum_group.proofs.SlotLaws.{group-object as object-of-group, grou
 use Rattle.halving.specs.Halving.{looked, ends_at, Parted}
 use Rattle.halving.specs.Keys.{reaches, object_at, number_at, reached, owned_before}
 use Rattle.halving.proofs.HalvingLaws.{Falls, parted, parted-as, ends-within, looked-same, ends_same, ends-each}
-use Rattle.halving.proofs.KeyLaws.{or-none, falls-ordered}
+use Rattle.halving.proofs.KeyLaws.{or-none, owned-in-front, falls-ordered}
 use Rattle.book.specs.Places.{record_at, leading, FloorExtent, card_under, extent_under, extent_up_to, extent_reached, reached_at, own_before, SearchedBook, group_under}
 use Rattle.book.proofs.SearchLaws.{FailBehind, record-at, leading-parted, found-last, found-no-last, floor-extent}
 
@@ -189,12 +189,8 @@ module _ (object : ℕ) (s : List ℕ) (place : ℕ) where
 
   module _ (t : Bool) (e : t ≡ owned_before object extent_bytes s place) where
     -- where it is remembered, an extent stands in front
-    pub own-some : t ≡ true → 1 ≤ place
-    unfolding owned_before
-    own-some p =
-        test-cases (1 ≤ place) (eqb place 0)
-        (λ z. absurd (clash (rw z refl) (and_left (not (eqb place 0)) (eqb (object_at extent_bytes s (place - 1)) object) (sym e ∙ p))))
-        (λ z. let d = eqb-false place 0 z in omega arith)
+    own-some : t ≡ true → 1 ≤ place
+    own-some p = owned-in-front object extent_bytes s place t e p
 
     -- and is one of the object
     own-object : t ≡ true → (record_at decode_extent extent_bytes s (place - 1)).object ≡ object
@@ -224,7 +220,7 @@ module _ (object block n : ℕ) (s : List ℕ) (place : ℕ) (e : place ≡ ends
         (λ p. absurd (clash (h.behind j l k) (up-to-reached object block (record_at decode_extent extent_bytes s j) p))) (λ p. p)
 
     -- the floor is the extent in front of it
-    pub floor-at : t ≡ true → ascending extent_before (decode_book decode_extent extent_bytes n s) ≡ true → FloorExtent object block n s (Some (place - 1))
+    floor-at : t ≡ true → ascending extent_before (decode_book decode_extent extent_bytes n s) ≡ true → FloorExtent object block n s (Some (place - 1))
     floor-at p h =
         let q : Parted (reached_at object block s) n place = parted-extents h in
         let l : 1 ≤ place = own-some object s place t o p in
@@ -253,7 +249,7 @@ module _ (object block n : ℕ) (s : List ℕ) (place : ℕ) (e : place ≡ ends
             pair_before-cases ⊥ (record_at decode_extent extent_bytes s j).object (record_at decode_extent extent_bytes s j).logical object 0 v (λ u. omega (arith, q)) (λ u y. omega arith))
 
     -- there is none
-    pub floor-none : t ≡ false → ascending extent_before (decode_book decode_extent extent_bytes n s) ≡ true → FloorExtent object block n s None
+    floor-none : t ≡ false → ascending extent_before (decode_book decode_extent extent_bytes n s) ≡ true → FloorExtent object block n s None
     floor-none p h =
         floor-extent object block n s None
         (found-no-last decode_extent extent_bytes s (extent_up_to object block) n 0 (omega arith) (λ j l k.
@@ -262,6 +258,14 @@ module _ (object block n : ℕ) (s : List ℕ) (place : ℕ) (e : place ≡ ends
         (λ v. absurd (none_before p h j (ltb-true j place v) (eqb-true _ _ (and_left (eqb (record_at decode_extent extent_bytes s j).object object) (leb (record_at decode_extent extent_bytes s j).logical block) u))))
         (λ v. none-behind (parted-extents h) j (ltb-false j place v) k))
         (λ u. u)))
+
+  module _ (found : Option ℕ) (o : found ≡ (pick owned_before object extent_bytes s place then Some (place - 1) else None)) where
+    -- what the search found is the floor
+    pub floor-found : ascending extent_before (decode_book decode_extent extent_bytes n s) ≡ true → FloorExtent object block n s found
+    floor-found h =
+        test-cases (FloorExtent object block n s found) (owned_before object extent_bytes s place)
+        (λ t. rw (o ∙ if-true (owned_before object extent_bytes s place) (Some (place - 1)) None t) (floor-at true (sym t) refl h))
+        (λ t. rw (o ∙ if-false (owned_before object extent_bytes s place) (Some (place - 1)) None t) (floor-none false (sym t) refl h))
 
     module _ (rounds : ℕ) (c : rounds ≡ length (looked (reached true object block extent_bytes s) n)) (few : n ≤ most_places → rounds ≤ 20) (m : n ≤ most_places) where
       -- the places looked at, told by the extents
@@ -274,13 +278,9 @@ module _ (object block n : ℕ) (s : List ℕ) (place : ℕ) (e : place ≡ ends
           e ∙ rw same-looked (sym (ends_same (reached true object block extent_bytes s) (reached_at object block s) 0 (looked (reached true object block extent_bytes s) n)
           (each-any (λ i. extent-reached s object block i) (looked (reached true object block extent_bytes s) n))))
 
-      -- what the search did where an extent was found
-      pub searched-at : t ≡ true → SearchedBook object block n s (Some (place - 1)) place rounds
-      searched-at p = record { most = few m; looks = rw same-looked c; ends = same_end; answer = sym (if-true (own_before object s place) (Some (place - 1)) None (sym (own_same object s place) ∙ sym o ∙ p)) }
-
-      -- and where none was
-      pub searched-none : t ≡ false → SearchedBook object block n s None place rounds
-      searched-none p = record { most = few m; looks = rw same-looked c; ends = same_end; answer = sym (if-false (own_before object s place) (Some (place - 1)) None (sym (own_same object s place) ∙ sym o ∙ p)) }
+      -- what the search did
+      pub searched-found : SearchedBook object block n s found place rounds
+      searched-found = record { most = few m; looks = rw same-looked c; ends = same_end; answer = rw (← own_same object s place) o }
 
 -- ---- what a search that was made says
 

@@ -1,16 +1,19 @@
 -- Laws of a scan that compares neighbours in a book, over any width and any order.
 -- Assumes nothing.
 use mathlib.Core.Path.{◌≡◌, refl, sym, ap, ◌∙◌}
-use mathlib.Core.Bool.{Bool, true, false, not, ◌&&◌}
+use mathlib.Core.Bool.{Bool, true, false, not, ◌&&◌, and_assoc}
 use mathlib.Core.List.{List, [], ◌∷◌, ◌++◌}
-use Prim.Native.Nat.{ℕ, suc, ◌+◌, ◌-◌, ◌*◌, ◌≤◌, ◌<◌}
+use Prim.Native.Nat.{ℕ, zero, suc, ◌+◌, ◌-◌, ◌*◌, ◌≤◌, ◌<◌}
 use native.Mathlib.Decide.{ℕ_discrete}
-use native.Mathlib.Nat.{sub_self}
 use native.Mathlib.Omega.{arith}
 use lib.Dec.{eqb, ltb}
 use borrow.Author.Tests.{not-true, not-false}
-use lib.ListN.{length, drop, get_or, length-drop}
-use lib.Seq.{take_all}
+use lib.ListN.{length, take, drop, get_or, length-drop}
+use Rattle.std.proofs.lemmas.List.{take-append-drop}
+use lib.Seq.{take_all, take-take, drop-drop}
+use Rattle.std.specs.Prelude.{MatchBool}
+use Rattle.std.specs.List.{AllWithin, HoldsAt}
+use Rattle.std.specs.Simd.{first_chunks}
 use Rattle.rules.specs.Lists.{all, ascending, pair_before, neighbours}
 use Rattle.rules.specs.Bytes.{part, all_zero}
 use Rattle.rules.specs.Card.{card_bytes, decode_card, card_before}
@@ -18,8 +21,7 @@ use Rattle.rules.specs.Extent.{Extent, extent_bytes, decode_extent, extent_befor
 use Rattle.rules.specs.Group.{group_bytes, decode_group, group_before}
 use Rattle.rules.specs.Book.{decode_book}
 use Rattle.rules.specs.Integrity.{apart}
-use Rattle.rules.proofs.ListLaws.{test-cases, clash, and_intro, all_append, ascending-at, ascending-of}
-use Rattle.rules.proofs.ByteLaws.{part-add, part_none}
+use Rattle.rules.proofs.ListLaws.{test-cases, clash, all_append, all_of, all-at, ascending-at, ascending-of}
 use Rattle.rules.proofs.BookLaws.{length-decode_book, decode_book-none}
 use Rattle.book.specs.Places.{record_at, follows}
 use Rattle.book.proofs.SearchLaws.{record-at}
@@ -122,17 +124,6 @@ pub extent-next : (s : List ℕ) (i : ℕ) (a : Extent) → a ≡ decode_extent 
 unfolding record_at
 extent-next s i a e = let k : i + 1 - 1 ≡ i = omega arith in rw k e
 
-module _ (e f : Extent) (m : Bool) (p : m ≡ extent_before e f) where
-  -- out of order
-  pub follows-not : not m ≡ true → false ≡ follows e f
-  unfolding follows
-  follows-not t = rw (← p, not-true m t) refl
-
-  -- in order: it is left to the overlap
-  pub follows-apart : (o : Bool) → not m ≡ false → o ≡ apart e f → o ≡ follows e f
-  unfolding follows
-  follows-apart o t q = rw (← p, not-false m t, ← q) refl
-
 -- the keys of two groups
 pub groups-pair : (s : List ℕ) (i a b c d : ℕ) (m : Bool) → a ≡ (decode_group (part (1073 * (i - 1)) group_bytes s)).object → b ≡ (decode_group (part (1073 * (i - 1)) group_bytes s)).number
     → c ≡ (decode_group (part (1073 * i) group_bytes s)).object → d ≡ (decode_group (part (1073 * i) group_bytes s)).number → m ≡ pair_before a b c d
@@ -147,44 +138,40 @@ zero-append : (xs ys : List ℕ) → all_zero (xs ++ ys) ≡ (all_zero xs && all
 unfolding all_zero
 zero-append xs ys = all_append (λ b. eqb b 0) xs ys
 
-module _ (s : List ℕ) (used a : ℕ) (l : used ≤ a) where
-  -- two parts side by side
-  zero-parts : (n : ℕ) → all_zero (part used (a - used + n) s) ≡ (all_zero (part used (a - used) s) && all_zero (part a n s))
-  zero-parts n =
-      let q : used + (a - used) ≡ a = omega arith in
-      ap all_zero (part-add s used (a - used) n) ∙ zero-append (part used (a - used) s) (part (used + (a - used)) n s)
-      ∙ ap (λ (x : ℕ). all_zero (part used (a - used) s) && all_zero (part x n s)) q
+-- a test of each element, up to the first that fails
+all-asked : {A : Type 0} (f : A → Bool) (d : A) (xs : List A) (r : Bool) → MatchBool r (AllWithin (λ x. f x ≡ true) xs 0 (length xs)) ((k : ℕ) × (k < length xs) × HoldsAt (λ x. f x ≡ false) xs k) → r ≡ all f xs
+all-asked f d xs true h = sym (all_of f xs d (λ i l. h i d (omega arith) l))
+all-asked f d xs false (k, l, h) = test-cases (false ≡ all f xs) (all f xs) (λ t. absurd (clash (h d) (all-at f xs t k d l))) (λ t. sym t)
 
-  -- all that stands behind
-  zero-all : a ≤ length s → all_zero (drop used s) ≡ (all_zero (part used (a - used) s) && all_zero (part a (length s - a) s))
-  zero-all h =
-      let q : a - used + (length s - a) ≡ length s - used = omega arith in
-      let d : part used (length s - used) s ≡ drop used s = unfold part in take_all (length s - used) (drop used s) (simp length-drop (omega arith)) in
-      ap all_zero (sym d) ∙ ap (λ (n : ℕ). all_zero (part used n s)) (sym q) ∙ zero-parts (length s - a)
+-- a stretch is zero, as it is tested
+abbrev pub zero_stretch : List ℕ → Bool
+zero_stretch x = all_zero (part 0 4096 x)
 
-  module _ (z : all_zero (part used (a - used) s) ≡ true) where
-    -- a stretch more
-    pub zero_more : (m : Bool) → m ≡ all_zero (part a (a + 4096 - a) s) → not m ≡ false → all_zero (part used (a + 4096 - used) s) ≡ true
-    zero_more m e t =
-        let q : a + 4096 - used ≡ a - used + 4096 = omega arith in
-        let k : a + 4096 - a ≡ 4096 = omega arith in
-        rw q (zero-parts 4096 ∙ and_intro (all_zero (part used (a - used) s)) (all_zero (part a 4096 s)) z (rw k at (sym e ∙ not-false m t)))
+-- so many stretches, and what is left behind them
+stretches-zero : (k : ℕ) (xs : List ℕ) → (all zero_stretch (first_chunks 4096 k xs) && all_zero (drop (k * 4096) xs)) ≡ all_zero xs
+unfolding all
+stretches-zero zero xs = refl
+stretches-zero (suc k) xs =
+    let t : part 0 4096 (take 4096 xs) ≡ take 4096 xs = unfold part in take-take 4096 4096 xs (omega arith) in
+    let d : drop (suc k * 4096) xs ≡ drop (k * 4096) (drop 4096 xs) = sym (drop-drop (k * 4096) 4096 xs ∙ ap (λ (n : ℕ). drop n xs) (omega arith)) in
+    let a : all_zero xs ≡ (all_zero (take 4096 xs) && all_zero (drop 4096 xs)) = ap all_zero (sym (take-append-drop 4096 xs)) ∙ zero-append (take 4096 xs) (drop 4096 xs) in
+    rw (t, d, a, ← stretches-zero k (drop 4096 xs)) (and_assoc (all_zero (take 4096 xs)) (all zero_stretch (first_chunks 4096 k (drop 4096 xs))) (all_zero (drop (k * 4096) (drop 4096 xs))))
 
-    -- one that is not zero
-    pub zero-not : (m : Bool) → 4096 ≤ length s - a → m ≡ all_zero (part a (a + 4096 - a) s) → not m ≡ true → false ≡ all_zero (drop used s)
-    zero-not m h e t =
-        let k : a + 4096 - a ≡ 4096 = omega arith in
-        let n : all_zero (part a 4096 s) ≡ false = rw k at (sym e ∙ not-true m t) in
-        let r : 4096 + (length s - (a + 4096)) ≡ length s - a = omega arith in
-        let b : all_zero (part a (length s - a) s) ≡ false =
-        ap (λ (x : ℕ). all_zero (part a x s)) (sym r) ∙ ap all_zero (part-add s a 4096 (length s - (a + 4096))) ∙ zero-append (part a 4096 s) (part (a + 4096) (length s - (a + 4096)) s) ∙ rw n refl in
-        sym (zero-all (omega arith) ∙ rw (z, b) refl)
+-- all that stands behind the first bytes
+pub zero-behind : (s : List ℕ) (used : ℕ) → all_zero (take (length s - used) (drop used s)) ≡ all_zero (drop used s)
+zero-behind s used = ap all_zero (take_all (length s - used) (drop used s) (simp length-drop (omega arith)))
 
-    -- the rest
-    pub zero_rest : (m : Bool) → a ≤ length s → m ≡ all_zero (part a (length s - a) s) → m ≡ all_zero (drop used s)
-    zero_rest m h e = e ∙ sym (zero-all h ∙ rw z refl)
+module _ (k : ℕ) (xs : List ℕ) (cs : List (List ℕ)) (p : cs ≡ first_chunks 4096 k xs) (r : Bool)
+    (h : MatchBool r (AllWithin (λ x. zero_stretch x ≡ true) cs 0 (length cs)) ((k : ℕ) × (k < length cs) × HoldsAt (λ x. zero_stretch x ≡ false) cs k)) where
+  -- the stretches are zero: it is left to the rest
+  pub zero-rest : (rest : List ℕ) (m : Bool) → rest ≡ drop (k * 4096) xs → r ≡ true → m ≡ all_zero (part 0 (length rest - 0) rest) → m ≡ all_zero xs
+  zero-rest rest m q t e =
+      let a : all zero_stretch (first_chunks 4096 k xs) ≡ true = ap (all zero_stretch) (sym p) ∙ sym (all-asked zero_stretch [] cs r h) ∙ t in
+      let w : part 0 (length rest - 0) rest ≡ rest = unfold part in take_all (length rest - 0) rest (omega arith) in
+      e ∙ ap all_zero (w ∙ q) ∙ sym (rw a at (sym (stretches-zero k xs)))
 
--- nothing yet
-pub zero-none : (s : List ℕ) (used : ℕ) → all_zero (part used (used - used) s) ≡ true
-unfolding all_zero all
-zero-none s used = rw (sub_self used, part_none s used) refl
+  -- one is not
+  pub zero-not : r ≡ false → r ≡ all_zero xs
+  zero-not t =
+      let a : all zero_stretch (first_chunks 4096 k xs) ≡ false = ap (all zero_stretch) (sym p) ∙ sym (all-asked zero_stretch [] cs r h) ∙ t in
+      t ∙ rw a at (stretches-zero k xs)

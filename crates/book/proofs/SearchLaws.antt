@@ -4,7 +4,7 @@ use mathlib.Core.Path.{◌≡◌, refl, sym, ap, ◌∙◌}
 use mathlib.Core.Bool.{Bool, true, false, not}
 use mathlib.Core.List.{List, [], ◌∷◌, get_last?}
 use mathlib.Core.Option.{some}
-use Rattle.std.specs.Prelude.{Option, Some, None}
+use Rattle.std.specs.Prelude.{Option, Some, None, MatchOption}
 use Prim.Native.Nat.{ℕ, zero, suc, ◌+◌, ◌-◌, ◌*◌, ◌≤◌, ◌<◌}
 use native.Mathlib.Omega.{arith}
 use borrow.Author.Count.{below_more}
@@ -106,11 +106,7 @@ pub record FoundLast {A : Type 0} (f : A → Bool) (decode : List ℕ → A) (w 
   pub found : found_in decode w s r ≡ get_last? (filter f (decode_book decode w n s))
   pub within : (i : ℕ) → r ≡ Some i → i < n
 
--- the first i records fail the test
-abbrev pub Fails : {A : Type 0} → (A → Bool) → (List ℕ → A) → ℕ → List ℕ → ℕ → Type 0
-Fails f decode w s i = (j : ℕ) → j < i → f (record_at decode w s j) ≡ false
-
--- those from i to n do
+-- the records from i to n fail the test
 abbrev pub FailBehind : {A : Type 0} → (A → Bool) → (List ℕ → A) → ℕ → ℕ → List ℕ → ℕ → Type 0
 FailBehind f decode w n s i = (j : ℕ) → i ≤ j → j < n → f (record_at decode w s j) ≡ false
 
@@ -137,40 +133,30 @@ module _ {A : Type 0} (decode : List ℕ → A) (w : ℕ) (s : List ℕ) where
     test_at : (n i : ℕ) (b : Bool) → i < n → f (record_at decode w s i) ≡ b → f (get_or (decode_book decode w n s) i (decode [])) ≡ b
     test_at n i b l e = ap f (record-at n i (decode []) l) ∙ e
 
-    -- none is passed yet
-    pub fails-none : Fails f decode w s 0
-    fails-none j l = absurd (omega arith)
-
-    -- one more
-    pub fails_more : (i : ℕ) (m : Bool) → Fails f decode w s i → m ≡ f (record_at decode w s i) → m ≡ false → Fails f decode w s (i + 1)
-    fails_more i m h e t = below_more (λ j. f (record_at decode w s j) ≡ false) i h (sym e ∙ t)
-
     -- one more passes
     pub passes-more : (i : ℕ) (m : Bool) → Passes f decode w s i → m ≡ f (record_at decode w s i) → not m ≡ false → Passes f decode w s (i + 1)
     passes-more i m h e t = below_more (λ j. f (record_at decode w s j) ≡ true) i h (sym e ∙ not-false m t)
 
     module _ (n : ℕ) where
-      -- the first was found
-      pub found_first : (i : ℕ) (m : Bool) → i < n → Fails f decode w s i → m ≡ f (record_at decode w s i) → m ≡ true → FoundFirst f decode w n s (Some i)
+      -- the first was found, or there is none
+      pub found-first : (r : Option ℕ) → MatchOption r ((k : ℕ) → 0 ≤ k → k < n → f (record_at decode w s k) ≡ false) (λ i. (0 ≤ i) × (i < n) × (f (record_at decode w s i) ≡ true) × ((k : ℕ) → 0 ≤ k → k < i → f (record_at decode w s k) ≡ false))
+          → FoundFirst f decode w n s r
       unfolding found_in
-      found_first i m l h e t =
+      found-first (Some i) h =
           let b : List A = decode_book decode w n s in
           let len : length b ≡ n = length-decode_book decode w n s in
-          let here : f (get_or b i (decode [])) ≡ true = test_at n i true l (sym e ∙ t) in
-          let front : (j : ℕ) → j < i → f (get_or b j (decode [])) ≡ false = λ j k. test_at n j false (omega arith) (h j k) in
+          let l : i < n = h.1 in
+          let here : f (get_or b i (decode [])) ≡ true = test_at n i true l h.2 in
+          let front : (j : ℕ) → j < i → f (get_or b j (decode [])) ≡ false = λ j k. test_at n j false (omega arith) (h.3 j (omega arith) k) in
           record {
             place = sym (first-at f (decode []) b i (omega arith) here front);
             found = sym (find_at f b i (decode []) (omega arith) here front ∙ ap some (record-at n i (decode []) l));
             within = λ j q. same_place n i j l q;
           }
-
-      -- none was
-      pub found_none : (i : ℕ) → n ≤ i → Fails f decode w s i → FoundFirst f decode w n s None
-      unfolding found_in
-      found_none i l h =
+      found-first None h =
           let b : List A = decode_book decode w n s in
           let len : length b ≡ n = length-decode_book decode w n s in
-          let all : (j : ℕ) → j < length b → f (get_or b j (decode [])) ≡ false = λ j k. test_at n j false (omega arith) (h j (omega arith)) in
+          let all : (j : ℕ) → j < length b → f (get_or b j (decode [])) ≡ false = λ j k. test_at n j false (omega arith) (h j (omega arith) (omega arith)) in
           record { place = sym (first-none f (decode []) b all); found = sym (find_none f b (any_none f (decode []) b all)); within = λ j q. no_place n j q }
 
       -- the last was found
@@ -229,12 +215,11 @@ module _ (s : List ℕ) (i object : ℕ) where
 
   module _ (x a : ℕ) (e : a ≡ (decode_group (part (1073 * i) group_bytes s)).object) where
     -- a group of another file
-    pub group-other : (a ≡ object → ⊥) → false ≡ group_is object x (record_at decode_group group_bytes s i)
+    pub group-other : (a ≡ object → ⊥) → eqb a object ≡ group_is object x (record_at decode_group group_bytes s i)
     unfolding record_at
     group-other n = rw (← e, ne_eqb a object n) refl
 
-    module _ (b : ℕ) (f : b ≡ (decode_group (part (1073 * i) group_bytes s)).number) where
-      -- of this one
-      pub group-is : a ≡ object → eqb b x ≡ group_is object x (record_at decode_group group_bytes s i)
-      unfolding record_at
-      group-is o = rw (← e, eq-eqb a object o, ← f) refl
+    -- of this one
+    pub group-is : (b : ℕ) → b ≡ (decode_group (part (1073 * i) group_bytes s)).number → a ≡ object → eqb b x ≡ group_is object x (record_at decode_group group_bytes s i)
+    unfolding record_at
+    group-is b f o = rw (← e, eq-eqb a object o, ← f) refl

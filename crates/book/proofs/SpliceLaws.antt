@@ -3,7 +3,7 @@
 use mathlib.Core.Path.{◌≡◌, refl, sym, ap, ◌∙◌}
 use mathlib.Core.Bool.{true}
 use mathlib.Core.List.{List, [], ◌∷◌, ◌++◌, map, append_assoc, append-nil, map-append}
-use Prim.Native.Nat.{ℕ, zero, suc, ◌+◌, ◌-◌, ◌*◌, ◌≤◌, ◌<◌}
+use Prim.Native.Nat.{ℕ, zero, suc, ◌+◌, ◌-◌, ◌*◌, ◌≤◌}
 use native.Mathlib.Nat.{mul-add}
 use native.Mathlib.Omega.{arith}
 use lib.ListN.{length, take, drop, replicate, length-append, length-replicate}
@@ -30,12 +30,6 @@ tail-down s x t b e to l m h p q =
 -- where the tail is not moved down there are no zeros behind it
 no-zeros : (s y : List ℕ) (b to : ℕ) → b ≤ to → y ++ replicate (b - to) 0 ≡ y
 no-zeros s y b to l = let k : b - to ≡ 0 = omega arith in rw k (append-nil y)
-
--- moved up
-pub tail-up : (s t : List ℕ) (b e to : ℕ) → b < to → t ≡ patch s (b + (to - b)) (part b (e - b) s) → t ≡ patch s to (part b (e - b) s ++ replicate (b - to) 0)
-tail-up s t b e to l p =
-    let k : b + (to - b) ≡ to = omega arith in
-    p ∙ rw (k, no-zeros s (part b (e - b) s) b to (omega arith)) refl
 
 -- left where it is
 pub tail-still : (s : List ℕ) (b e to : ℕ) → b ≤ to → to ≤ b → b ≤ e → e ≤ length s → s ≡ patch s to (part b (e - b) s ++ replicate (b - to) 0)

@@ -13,6 +13,7 @@ ghost use Rattle.book.specs.Places.{record_at, FoundFirst, FloorExtent, Searched
 use checksum_group::GROUP_BYTES;
 use format::card::CARD_BYTES;
 use format::extent::EXTENT_BYTES;
+use halving::Halved;
 
 // Whether the card at place `i` is that of `object`.
 fn card_is(s: &[u8], i: usize, object: u64) -> bool
@@ -27,14 +28,7 @@ pub fn find_card(s: &[u8], n: usize, object: u64) -> Option<usize>
     requires { card_bytes * n ≤ length s.now }
     ensures { FoundFirst (card_is object) decode_card card_bytes n s.now result }
 {
-    let mut i: usize = 0;
-    while i < n {
-        if card_is(s, i, object) {
-            return Some(i);
-        }
-        i += 1;
-    }
-    None
+    (0..n).find(|&i| card_is(s, i, object))
 }
 
 // Whether the group at place `i` has this key.
@@ -43,10 +37,7 @@ fn group_is(s: &[u8], i: usize, object: u64, number: u64) -> bool
     ensures { result ≡ group_is object number (record_at decode_group group_bytes s.now i) }
 {
     let at = GROUP_BYTES * i;
-    if checksum_group::group_object(s, at) != object {
-        return false;
-    }
-    checksum_group::group_number(s, at) == number
+    checksum_group::group_object(s, at) == object && checksum_group::group_number(s, at) == number
 }
 
 // The group with this key among the first `n`.
@@ -54,42 +45,18 @@ pub fn find_group(s: &[u8], n: usize, object: u64, number: u64) -> Option<usize>
     requires { group_bytes * n ≤ length s.now }
     ensures { FoundFirst (group_is object number) decode_group group_bytes n s.now result }
 {
-    let mut i: usize = 0;
-    while i < n {
-        if group_is(s, i, object, number) {
-            return Some(i);
-        }
-        i += 1;
-    }
-    None
-}
-
-// What a search for a floor found, how many extents it puts before the key of object and block or at it, and in how many rounds.
-#[derive(Clone, Copy)]
-pub struct Searched {
-    pub found: Option<usize>,
-    pub place: usize,
-    pub rounds: u32,
+    (0..n).find(|&i| group_is(s, i, object, number))
 }
 
 // The floor of `block` among the first `n` extents: the last that is one of `object` and starts at `block` or before. By halves.
-pub fn search_extent(s: &[u8], n: usize, object: u64, block: u64) -> Searched
+pub fn search_extent(s: &[u8], n: usize, object: u64, block: u64) -> Halved
     requires n_in_bounds { extent_bytes * n ≤ length s.now }
     requires n_le_most_places { n ≤ most_places }
     ensures floor_extent { ascending extent_before (decode_book decode_extent extent_bytes n s.now) ≡ true → FloorExtent object block n s.now result.found }
     ensures parted { ascending extent_before (decode_book decode_extent extent_bytes n s.now) ≡ true → Parted (reached_at object block s.now) n result.place }
     ensures searched_book { SearchedBook object block n s.now result.found result.place result.rounds }
 {
-    let h = halving::halve(s, EXTENT_BYTES, n, object, block, true);
-    let mut found = None;
-    if h.same {
-        found = Some(h.place - 1);
-    }
-    Searched {
-        found,
-        place: h.place,
-        rounds: h.rounds,
-    }
+    halving::halve(s, EXTENT_BYTES, n, object, block, true)
 }
 
 // The floor alone.
@@ -106,8 +73,7 @@ fn extent_covers(s: &[u8], i: usize, object: u64, block: u64) -> bool
     requires { extent_bytes * i + extent_bytes ≤ length s.now }
     ensures { result ≡ covers object block (record_at decode_extent extent_bytes s.now i) }
 {
-    let e = format::extent::decode_extent(s, EXTENT_BYTES * i);
-    e.covers(object, block)
+    format::extent::decode_extent(s, EXTENT_BYTES * i).covers(object, block)
 }
 
 // The extent among the first `n` that maps this block of the file of `object`.
@@ -115,14 +81,7 @@ pub fn covering(s: &[u8], n: usize, object: u64, block: u64) -> Option<usize>
     requires { extent_bytes * n ≤ length s.now }
     ensures { FoundFirst (covers object block) decode_extent extent_bytes n s.now result }
 {
-    let mut i: usize = 0;
-    while i < n {
-        if extent_covers(s, i, object, block) {
-            return Some(i);
-        }
-        i += 1;
-    }
-    None
+    (0..n).find(|&i| extent_covers(s, i, object, block))
 }
 
 // The place of the first card whose object is `object` or more, or `n`. A card has no number in its key: against 0, under which nothing stands, the bytes at

@@ -22,38 +22,19 @@ fn zero_from(s: &[u8], used: usize) -> bool
     requires { used ≤ length s.now }
     ensures { result ≡ all_zero (drop used s.now) }
 {
-    let mut a = used;
-    while STRETCH <= s.len() - a {
-        if !words::range::is_zero(s, a, a + STRETCH) {
-            return false;
-        }
-        a += STRETCH;
-    }
-    words::range::is_zero(s, a, s.len())
+    let (stretches, rest) = s[used..].as_chunks::<STRETCH>();
+    stretches
+        .iter()
+        .all(|x| words::range::is_zero(x, 0, STRETCH))
+        && words::range::is_zero(rest, 0, rest.len())
 }
 
-// Whether zeros stand behind the last of `n` cards.
-pub fn cards_packed(s: &[u8], n: usize) -> bool
-    requires { card_bytes * n ≤ length s.now }
-    ensures { result ≡ zero_behind card_bytes n s.now }
+// Whether zeros stand behind the last of `n` records of `width` bytes.
+pub fn packed(s: &[u8], width: usize, n: usize) -> bool
+    requires { width * n ≤ length s.now }
+    ensures { result ≡ zero_behind width n s.now }
 {
-    zero_from(s, CARD_BYTES * n)
-}
-
-// Whether zeros stand behind the last of `n` extents.
-pub fn extents_packed(s: &[u8], n: usize) -> bool
-    requires { extent_bytes * n ≤ length s.now }
-    ensures { result ≡ zero_behind extent_bytes n s.now }
-{
-    zero_from(s, EXTENT_BYTES * n)
-}
-
-// Whether zeros stand behind the last of `n` groups.
-pub fn groups_packed(s: &[u8], n: usize) -> bool
-    requires { group_bytes * n ≤ length s.now }
-    ensures { result ≡ zero_behind group_bytes n s.now }
-{
-    zero_from(s, GROUP_BYTES * n)
+    zero_from(s, width * n)
 }
 
 // Whether the card at place `i` follows the one before it.
@@ -87,10 +68,7 @@ pub fn group_follows(s: &[u8], i: usize) -> bool
 pub fn extent_follows(e: Extent, next: Extent) -> bool
     ensures { result ≡ follows (extent_of e) (extent_of next) }
 {
-    if !e.before(next) {
-        return false;
-    }
-    e.apart(next)
+    e.before(next) && e.apart(next)
 }
 
 // Whether the first `n` extents ascend by key and keep apart from each other. Each is decoded once: the one before is kept.
@@ -102,14 +80,12 @@ pub fn extents_ordered(s: &[u8], n: usize) -> bool
         return true;
     }
     let mut last = format::extent::decode_extent(s, 0);
-    let mut i: usize = 1;
-    while i < n {
+    for i in 1..n {
         let next = format::extent::decode_extent(s, EXTENT_BYTES * i);
         if !extent_follows(last, next) {
             return false;
         }
         last = next;
-        i += 1;
     }
     true
 }

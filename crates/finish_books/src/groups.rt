@@ -41,7 +41,7 @@ fn add_one(groups: &mut [u8], n: usize, object: u64, number: u64)
     let mut x = [0u8; GROUP_BYTES];
     checksum_group::group_key(&mut x, 0, object, number);
     let i = book::find::first_group(groups, n, object, number);
-    book::splice::splice_groups(groups, n, i, 0, &x, 1);
+    book::splice::splice_records(groups, GROUP_BYTES, n, i, 0, &x, 1);
 }
 
 // Two, with neighbouring numbers: no group stands between them.
@@ -55,7 +55,7 @@ fn add_two(groups: &mut [u8], n: usize, object: u64, number: u64)
     checksum_group::group_key(&mut x, 0, object, number);
     checksum_group::group_key(&mut x, GROUP_BYTES, object, number + 1);
     let i = book::find::first_group(groups, n, object, number);
-    book::splice::splice_groups(groups, n, i, 0, &x, 2);
+    book::splice::splice_records(groups, GROUP_BYTES, n, i, 0, &x, 2);
 }
 
 // So many empty groups put in, from a number on.

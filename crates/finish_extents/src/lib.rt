@@ -104,5 +104,13 @@ pub fn finish_extents(extents: &mut [u8], n: usize, e: Exchange, made: &[u8])
     ensures { extents.new ≡ encode_book encode_extent (length extents.old) (take e.place (extents_in n extents.old) ++ extents_in e.count made.now ++ drop (e.place + e.cut) (extents_in n extents.old)) }
 {
     let used = EXTENT_BYTES * e.count;
-    book::splice::splice_extents(extents, n, e.place, e.cut, &made[0..used], e.count);
+    book::splice::splice_records(
+        extents,
+        EXTENT_BYTES,
+        n,
+        e.place,
+        e.cut,
+        &made[0..used],
+        e.count,
+    );
 }

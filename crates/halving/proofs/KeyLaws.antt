@@ -3,14 +3,14 @@
 use mathlib.Core.Path.{◌≡◌, refl, sym, ◌∙◌}
 use mathlib.Core.Bool.{Bool, true, false, not, ◌&&◌, ◌||◌}
 use mathlib.Core.List.{List}
-use Prim.Native.Nat.{ℕ, suc, ◌+◌, ◌-◌, ◌*◌, ◌/◌, ◌^◌, ◌≤◌, ◌<◌}
-use native.Mathlib.Nat.{mul-suc, mul-le-mul_left}
+use Prim.Native.Nat.{ℕ, suc, ◌+◌, ◌-◌, ◌*◌, ◌≤◌, ◌<◌}
 use native.Mathlib.Omega.{arith}
-use borrow.Author.Tests.{eqb-true, eq-eqb, ne_eqb, le-ltb}
+use borrow.Author.Tests.{eqb-true, eqb-false, eq-eqb, ne_eqb, le-ltb}
 use lib.Dec.{eqb, ltb}
 use Rattle.rules.specs.Bytes.{be, part}
-use Rattle.rules.specs.Lists.{pair_before}
-use Rattle.rules.proofs.ListLaws.{and_left, and_right, or_cases, or_left, pair_before-trans}
+use Rattle.std.proofs.Common.{Some, None}
+use Rattle.rules.specs.Lists.{pick◌then◌else◌, pair_before}
+use Rattle.rules.proofs.ListLaws.{if-true, if-false, test-cases, clash, and_left, and_right, or_cases, or_left, pair_before-trans}
 use Rattle.format.proofs.TestLaws.{before-equal, before-other}
 use Rattle.halving.specs.Keys.{reaches, object_at, number_at, reached, owned_before}
 use Rattle.halving.proofs.HalvingLaws.{Falls, falls-steps}
@@ -65,17 +65,6 @@ module _ (equal : Bool) (object number : ℕ) where
 
 -- ---- the places of a book
 
--- the key of the record in the middle of a range lies in the book
-pub key_fits : (w n low high size : ℕ) → 17 ≤ w → w * n ≤ size → low < high → high ≤ n → w * (low + (high - low) / 2) + 17 ≤ size
-key_fits w n low high size l m k o =
-    let i : ℕ = low + (high - low) / 2 in
-    let q : w * suc i ≤ w * n = mul-le-mul_left w (omega arith) in
-    omega (arith, mul-suc w i, q)
-
--- so that its place is counted in 64 bits
-pub place-fits : (w n low high size : ℕ) → 17 ≤ w → w * n ≤ size → size < 2 ^ 64 → low < high → high ≤ n → w * (low + (high - low) / 2) < 2 ^ 64
-place-fits w n low high size l m f k o = omega (arith, key_fits w n low high size l m k o)
-
 module _ (equal : Bool) (object number w : ℕ) (s : List ℕ) (i : ℕ) where
   -- a look at a place says whether it is reached
   pub reached-at : (t : Bool) → t ≡ reaches equal object number (be (part (w * i) 8 s)) (be (part (w * i + 9) 8 s)) → t ≡ reached equal object number w s i
@@ -91,6 +80,23 @@ owned-none object w s = refl
 pub owned-next : (object w : ℕ) (s : List ℕ) (i : ℕ) (t : Bool) → t ≡ eqb (be (part (w * i) 8 s)) object → t ≡ owned_before object w s (i + 1)
 unfolding owned_before object_at
 owned-next object w s i t e = let q : i + 1 - 1 ≡ i = omega arith in rw (ne_eqb (i + 1) 0 (λ z. omega arith), q) e
+
+module _ (object w : ℕ) (s : List ℕ) (place : ℕ) (t : Bool) (e : t ≡ owned_before object w s place) where
+  -- where one of the object stands in front of a place, the place is not the first
+  pub owned-in-front : t ≡ true → 1 ≤ place
+  unfolding owned_before
+  owned-in-front p =
+      test-cases (1 ≤ place) (eqb place 0)
+      (λ z. absurd (clash (rw z refl) (and_left (not (eqb place 0)) (eqb (object_at w s (place - 1)) object) (sym e ∙ p))))
+      (λ z. let d = eqb-false place 0 z in omega arith)
+
+  -- that record was found
+  pub found-some : t ≡ true → Some (place - 1) ≡ (pick owned_before object w s place then Some (place - 1) else None)
+  found-some p = sym (if-true (owned_before object w s place) (Some (place - 1)) None (sym e ∙ p))
+
+  -- none was
+  pub found-none : t ≡ false → None ≡ (pick owned_before object w s place then Some (place - 1) else None)
+  found-none p = sym (if-false (owned_before object w s place) (Some (place - 1)) None (sym e ∙ p))
 
 -- ---- keys in order
 

@@ -3,7 +3,8 @@
 // tested with the key, so that nothing is looked at again in the end. All of this holds for any book; what the answer means, for ordered ones.
 #![tactic(auto)]
 
-ghost use Rattle.std.specs.Prelude.{◌≡◌, ◌+◌, ◌*◌, ◌≤◌, eqb, length};
+ghost use Rattle.std.specs.Prelude.{◌≡◌, ◌+◌, ◌-◌, ◌*◌, ◌≤◌, eqb, length};
+ghost use Rattle.rules.specs.Lists.{pick◌then◌else◌};
 ghost use Rattle.rules.specs.Bytes.{be, part};
 ghost use Rattle.rules.specs.Sizes.{most_places};
 ghost use Rattle.format.specs.Records.{key_bytes};
@@ -12,15 +13,17 @@ ghost use Rattle.halving.specs.Keys.{reaches, reached, owned_before};
 
 use format::key::NUMBER_AT;
 
-// Where a search ended: how many records it puts before the key or at it, whether the last of those is one of the object, and in how many rounds.
+// Where a search ended: how many records it puts before the key or at it, the place of the last of those if it is one of the object, and in how many
+// rounds.
 #[derive(Clone, Copy)]
 pub struct Halved {
     pub place: usize,
-    pub same: bool,
+    pub found: Option<usize>,
     pub rounds: u32,
 }
 
 // What one look at a record says: whether it stands before the key or at it, and whether it is one of the object.
+// Kept: two tests that do not depend on each other, so that no Option has both.
 #[derive(Clone, Copy)]
 struct Seen {
     reached: bool,
@@ -57,14 +60,14 @@ fn look(s: &[u8], at: usize, object: u64, number: u64, equal: bool) -> Seen
 pub fn halve(s: &[u8], width: usize, n: usize, object: u64, number: u64, equal: bool) -> Halved
     requires { (key_bytes ≤ width) × (width * n ≤ length s.now) }
     ensures place_value { result.place ≡ ends_at (reached equal object number width s.now) 0 (looked (reached equal object number width s.now) n) }
-    ensures same_value { result.same ≡ owned_before object width s.now result.place }
+    ensures found_value { result.found ≡ (pick owned_before object width s.now result.place then Some (result.place - 1) else None) }
     ensures rounds_value { result.rounds ≡ length (looked (reached equal object number width s.now) n) }
     ensures rounds_bound { n ≤ most_places → result.rounds ≤ 20 }
 {
-    let mut low: usize = 0;
+    let mut low = 0;
     let mut high = n;
     let mut same = false;
-    let mut rounds: u32 = 0;
+    let mut rounds = 0;
     while low < high {
         let middle = low + (high - low) / 2;
         let l = look(s, width * middle, object, number, equal);
@@ -78,7 +81,7 @@ pub fn halve(s: &[u8], width: usize, n: usize, object: u64, number: u64, equal: 
     }
     Halved {
         place: low,
-        same,
+        found: if same { Some(low - 1) } else { None },
         rounds,
     }
 }

@@ -62,7 +62,7 @@ pub fn cards_right(s: &[u8], n: usize) -> bool
     requires { card_bytes * n ≤ length s.now }
     ensures { result ≡ cards_right n s.now }
 {
-    book::order::cards_packed(s, n) && cards_kept(s, n)
+    book::order::packed(s, CARD_BYTES, n) && cards_kept(s, n)
 }
 
 // Whether the extent at `at` has its fixed bytes, is not empty, and lies on a device of so many blocks.
@@ -113,7 +113,7 @@ pub fn extents_right(s: &[u8], n: usize, blocks: u64) -> bool
     requires { extent_bytes * n ≤ length s.now }
     ensures { result ≡ extents_right blocks n s.now }
 {
-    book::order::extents_packed(s, n) && extents_kept(s, n, blocks)
+    book::order::packed(s, EXTENT_BYTES, n) && extents_kept(s, n, blocks)
 }
 
 // Whether the group at `at` has its fixed byte, and zeros in each slot that is not present.
@@ -151,7 +151,7 @@ pub fn groups_right(s: &[u8], n: usize) -> bool
     requires { group_bytes * n ≤ length s.now }
     ensures { result ≡ groups_right n s.now }
 {
-    book::order::groups_packed(s, n) && groups_kept(s, n)
+    book::order::packed(s, GROUP_BYTES, n) && groups_kept(s, n)
 }
 
 // From place `a` on the first of `n` cards whose object is `object` or more, or `n`.

@@ -28,7 +28,7 @@ pub extern "C" fn sangueko_probe_splice_extents(
     if new.len() != EXTENT_BYTES * m || places < n || n < i || n - i < k || places - (n - k) < m {
         return false;
     }
-    book::splice::splice_extents(book, n, i, k, new, m);
+    book::splice::splice_records(book, EXTENT_BYTES, n, i, k, new, m);
     true
 }
 

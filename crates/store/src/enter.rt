@@ -61,7 +61,7 @@ fn insert_card(cards: &mut [u8], n: usize, c: Card)
     let mut x = [0u8; CARD_BYTES];
     format::card::encode_card(&mut x, 0, c);
     let i = book::find::first_card(cards, n, c.object);
-    book::splice::splice_cards(cards, n, i, 0, &x, 1);
+    book::splice::splice_records(cards, CARD_BYTES, n, i, 0, &x, 1);
 }
 
 // A head that counts one card more.

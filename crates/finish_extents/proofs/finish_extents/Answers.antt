@@ -5,4 +5,4 @@ use Rattle.finish_extents.proofs.ExchangeLaws.{book-after}
 use Rattle.finish_extents.proofs.finish_extents.Goals as goal
 
 pub returns : goal.returns
-returns c = book-after _ _ _ _ _ _ _ (search rules) c.requires.whole_book.0 c.requires.count_in_bounds.1 c.requires.count_in_bounds_2 c.splice_extents.ensures
+returns c = book-after _ _ _ _ _ _ _ (search rules) c.requires.whole_book.0 c.requires.count_in_bounds.1 c.requires.count_in_bounds_2 c.splice_records.ensures

@@ -1,11 +1,14 @@
 -- `book::order::extent_follows` meets its contract.
 -- Assumes nothing.
-use borrow.Author.Rules.{rules}
-use Rattle.book.proofs.OrderLaws.{follows-not, follows-apart}
+use Rattle.book.specs.Places.{follows}
+use Rattle.std.proofs.Common.{arith}
+use Rattle.std.proofs.lemmas.Grind.{common_steps}
 use Rattle.book.proofs.order.extent_follows.Goals as goal
 
-pub returns-then-not-before : goal.returns-then-not-before
-returns-then-not-before c = search (follows-not, rules)
+pub returns-then-before : goal.returns-then-before
+unfolding follows
+returns-then-before c = grind (arith, common_steps)
 
-pub returns : goal.returns
-returns c = search (follows-apart, rules)
+pub returns-else-before : goal.returns-else-before
+unfolding follows
+returns-else-before c = grind (arith, common_steps)
