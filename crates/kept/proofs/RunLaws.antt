@@ -3,19 +3,18 @@
 use mathlib.Core.Path.{◌≡◌, refl, sym, ap, ◌∙◌}
 use mathlib.Core.Bool.{Bool, true, false, not}
 use mathlib.Core.List.{List, [], ◌∷◌}
-use Prim.Native.Nat.{ℕ, zero, suc, ◌+◌, ◌-◌, ◌≤◌, ◌<◌, min}
-use native.Mathlib.Nat.{add_assoc, add_comm, le_of_suc-le-suc}
+use Prim.Native.Nat.{ℕ, zero, suc, ◌+◌, ◌-◌, ◌≤◌, ◌<◌}
+use native.Mathlib.Nat.{add_assoc, add_comm, add-zero, le_of_suc-le-suc}
 use native.Mathlib.Numerals.{add-one}
 use native.Mathlib.Omega.{arith}
 use lib.Dec.{eqb}
 use lib.ListN.{length, take, get_or}
-use lib.Seq.{take_all}
-use mir.Val.{bool_byte}
 use borrow.Author.Tests.{not-true, not-false}
 use Rattle.std.specs.declared.option.Option as code
 use Rattle.std.specs.Prelude.{Some, None, MatchOption, is_some}
 use Rattle.std.specs.Option.{option_eq}
 use Rattle.rules.specs.Lists.{pick◌then◌else◌}
+use Rattle.rules.proofs.ListLaws.{if-true, if-false}
 use Rattle.rules.specs.Kept.{continues, runs}
 use Rattle.mapping.specs.Entries.{entry_of, entries}
 use Rattle.kept.proofs.EntryLaws.{entry-none, entry-some}
@@ -39,16 +38,13 @@ continues-some a b p (Some q) r e h n =
 
 -- ---- runs
 
--- so many of the first i blocks' runs are counted
-pub record CountedRuns (xs : List ℕ) (n i : ℕ) : Type 0 where
-  pub count : n ≡ runs (entries (take i xs))
-  pub few : n ≤ min i (length xs)
-
--- the first block begins one
-pub first_run : (xs : List ℕ) → CountedRuns xs (min (length xs) 1) 1
+-- none and one
+pub runs-few : (xs : List ℕ) (n : ℕ) → n ≤ length xs → n < 2 → (n ≡ runs (entries (take n xs))) × (n ≤ n)
 unfolding runs entries
-first_run [] = record { count = refl; few = omega arith }
-first_run (x ∷ xs) = record { count = omega arith; few = omega arith }
+runs-few xs zero l m = (refl, omega arith)
+runs-few [] (suc n) l m = absurd (omega arith)
+runs-few (x ∷ xs) (suc zero) l m = (refl, omega arith)
+runs-few (x ∷ xs) (suc (suc n)) l m = absurd (omega arith)
 
 -- one block more, by the last pair
 pub runs_last : (xs : List ℕ) (m : ℕ) → suc m < length xs
@@ -62,25 +58,20 @@ runs_last (x ∷ y ∷ z ∷ zs) (suc m) l =
     let one : ℕ = pick continues (entry_of x) (entry_of y) then 0 else 1 in
     ap (λ (k : ℕ). one + k) (runs_last (y ∷ z ∷ zs) m (le_of_suc-le-suc l)) ∙ sym (add_assoc one _ _)
 
-module _ (xs : List ℕ) (n i : ℕ) (h : CountedRuns xs n i) where
-  -- one block more
-  pub more_runs : 1 ≤ i → i < length xs → (b : Bool) → b ≡ continues (entry_of (get_or xs (i - 1) 0)) (entry_of (get_or xs i 0)) → CountedRuns xs (n + bool_byte (not b)) (i + 1)
-  unfolding pick◌then◌else◌
-  more_runs l m b q =
-      let e : i + 1 ≡ suc (suc (i - 1)) = omega arith in
-      let d : suc (i - 1) ≡ i = omega arith in
-      let last : runs (entries (take (i + 1) xs)) ≡ n + (pick continues (entry_of (get_or xs (i - 1) 0)) (entry_of (get_or xs i 0)) then 0 else 1) =
-      ap (λ (k : ℕ). runs (entries (take k xs))) e ∙ runs_last xs (i - 1) (omega arith) ∙ rw (d, ← h.count) refl in
-      record { count = sym (last ∙ ap (λ (k : ℕ). n + k) (rw (← q) (one b))); few = omega (arith, h.few, byte b) }
-    where
-      one : (b : Bool) → (pick b then 0 else 1) ≡ bool_byte (not b)
-      one true = refl
-      one false = refl
+module _ (xs : List ℕ) (n before : ℕ) (few : n ≤ length xs) (more : 2 ≤ n) (h : (before ≡ runs (entries (take (n - 1) xs))) × (before ≤ n - 1)) where
+  -- the last pair's place
+  last : runs (entries (take n xs)) ≡ before + (pick continues (entry_of (get_or xs (n - 2) 0)) (entry_of (get_or xs (n - 1) 0)) then 0 else 1)
+  last =
+      let e : n ≡ suc (suc (n - 2)) = omega arith in
+      let d : n - 1 ≡ suc (n - 2) = omega arith in
+      let t : runs (entries (take (suc (n - 2)) xs)) ≡ before = rw (← d) (sym h.0) in
+      rw d (ap (λ (k : ℕ). runs (entries (take k xs))) e ∙ runs_last xs (n - 2) (omega arith)
+      ∙ ap (λ (k : ℕ). k + (pick continues (entry_of (get_or xs (n - 2) 0)) (entry_of (get_or xs (suc (n - 2)) 0)) then 0 else 1)) t)
 
-      byte : (b : Bool) → bool_byte (not b) ≤ 1
-      byte true = omega arith
-      byte false = omega arith
+  -- the last block continues the run of the one before it
+  pub runs_same : true ≡ continues (entry_of (get_or xs (n - 2) 0)) (entry_of (get_or xs (n - 1) 0)) → (before ≡ runs (entries (take n xs))) × (before ≤ n)
+  runs_same t = (sym (last ∙ ap (λ (k : ℕ). before + k) (if-true _ 0 1 (sym t)) ∙ add-zero before), omega (arith, h.1))
 
-  -- all blocks
-  pub all_runs : length xs ≤ i → (n ≡ runs (entries xs)) × (n ≤ length xs)
-  all_runs l = (h.count ∙ ap (λ (ys : List ℕ). runs (entries ys)) (take_all i xs l), omega (arith, h.few))
+  -- it begins one
+  pub runs-more : false ≡ continues (entry_of (get_or xs (n - 2) 0)) (entry_of (get_or xs (n - 1) 0)) → (before + 1 ≡ runs (entries (take n xs))) × (before + 1 ≤ n)
+  runs-more t = (sym (last ∙ ap (λ (k : ℕ). before + k) (if-false _ 0 1 (sym t))), omega (arith, h.1))

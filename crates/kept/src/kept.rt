@@ -22,15 +22,19 @@ pub fn continues(a: u32, b: u32) -> bool
     }
 }
 
-// The runs that a unit's blocks form.
-pub fn runs(kept: &[u32]) -> usize
-    ensures { (result ≡ runs (entries kept.now)) × (result ≤ length kept.now) }
+// The runs that the first `n` blocks form. It calls itself on one block fewer, as document 01 names the form.
+pub fn runs(kept: &[u32], n: usize) -> usize
+    requires { n ≤ length kept.now }
+    ensures { (result ≡ runs (entries (take n kept.now))) × (result ≤ n) }
 {
-    let mut n = kept.len().min(1);
-    for i in 1..kept.len() {
-        n += usize::from(!continues(kept[i - 1], kept[i]));
+    if n < 2 {
+        return n;
     }
-    n
+    let before = runs(kept, n - 1);
+    if continues(kept[n - 2], kept[n - 1]) {
+        return before;
+    }
+    before + 1
 }
 
 // The entries of the intact blocks among the first `n`, none behind them, and none at all where they would form more runs than the limit.
@@ -38,7 +42,7 @@ fn within_limit(limit: usize, n: usize, kept: &mut [u32])
     requires { (n ≤ unit_blocks) × (length kept.old ≡ unit_blocks) }
     ensures { kept.new ≡ limited_entries limit n kept.old }
 {
-    if limit < runs(&kept[..n]) {
+    if limit < runs(kept, n) {
         kept.fill(0);
     } else {
         kept[n..].fill(0);
