@@ -85,13 +85,13 @@ module _ (s : Store) (w : StoreReady s) (object size seconds nanoseconds : ℕ) 
   unfolding result number_of
   grow-missing f = sym (ap (result s []) (calls.grow-missing s w.passes object size time (card-missing s object f)))
 
-  module _ (x : File) (f : FileFound s.head s.cards object (Some x)) (n : ℕ) (e : n ≡ grow_number x.size size time) where
+  module _ (file : File) (f : FileFound s.head s.cards object (Some file)) (n : ℕ) (e : n ≡ grow_number file.size size time) where
     -- its size and its count of blocks
     abbrev old : ℕ
-    old = x.size
+    old = file.size
 
     abbrev allocated : ℕ
-    allocated = x.allocated
+    allocated = file.allocated
 
     -- its card among the store's
     abbrev there : CardThere s.head s.cards object old allocated
