@@ -23,9 +23,6 @@ use lent::Store;
 use triples::TRIPLE_BYTES;
 use write::{Done, MOST_RUNS};
 
-// The number of refusal 18.
-const BAD_BATCH: u32 = 18;
-
 // Refusals 1 and 2: tried if asked for; where they are not, the store passes them.
 fn tried(store: &Store<'_>, again: bool) -> Result<(), Refusal>
     requires { again ≡ false → Passes (store_of store.now) }
@@ -136,7 +133,7 @@ pub fn write_batch(
 {
     if batch_tests::batch_wrong(list, bytes) {
         return Done {
-            number: BAD_BATCH,
+            number: Refusal::BadBatch.number(),
             count: 0,
         };
     }
