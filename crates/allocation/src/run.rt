@@ -19,13 +19,12 @@ impl<'a> Search<'a> {
     {
         let start = g * GROUP_BLOCKS;
         let end = group_end(start, self.blocks);
-        match runs::lowest_run(self.map, start as usize, end as usize, self.want) {
-            Some(b) => Some(b as u64),
-            None => None,
-        }
+        let first = runs::lowest_run(self.map, start as usize, end as usize, self.want);
+        first.map(|b| b as u64)
     }
 
     // The first block of the first run.
+    // Kept: a loop and not `find_map`, which was tried: the library has no lemma that says what it finds over a range.
     pub(crate) fn first_run(&self) -> Option<u64>
         requires { 0 < self.now.want }
         ensures { Says result (first_run self.now.blocks (clear self.now.map.now) self.now.want self.now.hint) }
