@@ -2,7 +2,7 @@
 -- Assumes nothing.
 use mathlib.Core.Path.{◌≡◌, refl, sym, ap, ◌∙◌}
 use mathlib.Core.List.{List, [], ◌∷◌, ◌++◌}
-use mathlib.Core.Option.{none, some}
+use mathlib.Core.Option.{Option, none, some}
 use Prim.Native.Nat.{ℕ, ◌+◌, ◌-◌, ◌*◌, ◌%◌, ◌≤◌, ◌<◌, min}
 use native.Mathlib.Omega.{arith}
 use Rattle.rules.specs.Lists.{range}
@@ -11,7 +11,8 @@ use Rattle.rules.proofs.ListLaws.{order-cases, range-add}
 use Rattle.rules.proofs.RunLaws.{run_at, run-no}
 use Rattle.rules.proofs.AllocationLaws.{group_at, first_run-turn, first_run-turns}
 use Rattle.runs.specs.Runs.{clear, Lowest}
-use Rattle.std.specs.Prelude.{Some, None}
+use Rattle.std.specs.Prelude.{Some, None, MatchOption}
+use Rattle.std.specs.Option.{IsSomeAnd}
 use Rattle.std.specs.Prelude as std
 use Rattle.allocation.specs.Search.{held, Room, Says}
 use Rattle.allocation.specs.declared.taken.Taken.{Taken}
@@ -30,6 +31,12 @@ group-run map blocks n g end None l d o h = run-no blocks (clear map) n g (width
 group-run map blocks n g end (Some b) l d o h =
     let i : b + n ≤ end = h.inside in
     run_at blocks (clear map) n g (width blocks g l) b h.passed.least (omega arith) h.found (λ c u v. h.passed.before c u v (omega arith))
+
+-- an answer put through what leaves its number is the same answer
+pub says_map : (o : Option ℕ) (x r : std.Option ℕ) (P : ℕ → ℕ → Type 0) → Says x o → MatchOption x (r ≡ None) (λ b. IsSomeAnd r (P b)) → ((b y : ℕ) → P b y → y ≡ b) → Says r o
+says_map o None r P h e f = rw e h
+says_map o (Some b) (Some y) P h e f = rw (f b y e) h
+says_map o (Some b) None P h e f = absurd e
 
 -- ---- one group after another
 

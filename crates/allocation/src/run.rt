@@ -7,36 +7,36 @@ ghost use Rattle.rules.specs.Allocation.{allocation_groups, run_in, first_run};
 ghost use Rattle.runs.specs.Runs.{clear};
 ghost use Rattle.allocation.specs.Search.{held, Room, OnMap, Says};
 
-use super::{Taken, group_at, group_end, groups_of};
+use super::{Search, Taken, group_at, group_end, groups_of};
 use format::sizes::GROUP_BLOCKS;
 
-// The first block of a group's lowest run.
-fn run_in(map: &[u8], blocks: u64, g: u64, want: usize) -> Option<u64>
-    requires on_map { OnMap blocks map.now × (g < allocation_groups blocks) }
-    requires want_nonzero { (0 < want) × (want ≤ unit_blocks) }
-    ensures { Says result (run_in blocks (clear map.now) want g) }
-{
-    let start = g * GROUP_BLOCKS;
-    let end = group_end(start, blocks);
-    match runs::lowest_run(map, start as usize, end as usize, want) {
-        Some(b) => Some(b as u64),
-        None => None,
+impl<'a> Search<'a> {
+    // The first block of a group's lowest run.
+    fn run_in(&self, g: u64) -> Option<u64>
+        requires group { g < allocation_groups self.now.blocks }
+        requires want_nonzero { 0 < self.now.want }
+        ensures { Says result (run_in self.now.blocks (clear self.now.map.now) self.now.want g) }
+    {
+        let start = g * GROUP_BLOCKS;
+        let end = group_end(start, self.blocks);
+        let first = runs::lowest_run(self.map, start as usize, end as usize, self.want);
+        first.map(|b| b as u64)
     }
-}
 
-// The first block of the first run.
-pub fn first_run(map: &[u8], blocks: u64, hint: u64, want: usize) -> Option<u64>
-    requires on_map { OnMap blocks map.now }
-    requires want_nonzero { (0 < want) × (want ≤ unit_blocks) }
-    ensures { Says result (first_run blocks (clear map.now) want hint) }
-{
-    let groups = groups_of(blocks);
-    for i in 0..groups {
-        if let Some(b) = run_in(map, blocks, group_at(hint, i, groups), want) {
-            return Some(b);
+    // The first block of the first run.
+    // Kept: a loop and not `find_map`, which was tried: the library has no lemma that says what it finds over a range.
+    pub(crate) fn first_run(&self) -> Option<u64>
+        requires { 0 < self.now.want }
+        ensures { Says result (first_run self.now.blocks (clear self.now.map.now) self.now.want self.now.hint) }
+    {
+        let groups = groups_of(self.blocks);
+        for i in 0..groups {
+            if let Some(b) = self.run_in(group_at(self.hint, i, groups)) {
+                return Some(b);
+            }
         }
+        None
     }
-    None
 }
 
 // The `n` blocks from `b` on.

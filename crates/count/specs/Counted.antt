@@ -1,7 +1,11 @@
 -- What the count of a card becomes, and the card with it.
 -- Assumes nothing.
-use Rattle.std.specs.Prelude.{ℕ, ◌+◌, ◌-◌}
+use Rattle.std.specs.Prelude.{ℕ, ◌+◌, ◌-◌, ◌^◌, ◌≤◌, ◌<◌}
 use Rattle.format.specs.declared.card.Card.{Card}
+
+-- no more is given up than was counted, and what is given fits
+abbrev pub CountFits : (allocated gone given : ℕ) → Type 0
+CountFits allocated gone given = (gone ≤ allocated) × (allocated + given < 2 ^ 64)
 
 -- the blocks counted, less those given up, with those given
 abbrev pub counted_of : (allocated gone given : ℕ) → ℕ

@@ -67,7 +67,7 @@ fn unit(
     if scattered {
         let t = allocation::found_first(map, blocks, hint, cursors, want);
         allocation::mark(map, t);
-        return allocation::answer(t, hint, cursors, want);
+        return allocation::answer(t, hint, cursors);
     }
     allocation::allocate_unit(map, blocks, hint, cursors, want)
 }
@@ -92,7 +92,7 @@ fn allocate(
     }
     let r = unit(map, blocks, hint, cursors_of(past), want, scattered);
     put_answer(past, out, r);
-    if r.enough { want } else { 17 }
+    if want <= r.taken.count { want } else { 17 }
 }
 
 // The blocks of one unit.

@@ -1,11 +1,11 @@
--- `probe::allocate::unit` meets its contract: the blocks that are found first have room and lie in the map.
+-- `probe::allocate::unit` meets its contract: the blocks that are found first lie in the map.
 -- Assumes nothing.
 use native.Mathlib.Omega.{arith}
-use Rattle.allocation.proofs.AnswerLaws.{chosen-room, within_more}
+use Rattle.allocation.proofs.AnswerLaws.{within_more}
 use Rattle.probe.proofs.allocate.unit.Goals as goal
 
 pub mark-requires : goal.mark-requires
-mark-requires c = record { room = chosen-room _ _ _ _ (omega arith) c.found_first-t.ensures; within = within_more _ _ _ c.found_first-t.ensures.within (omega arith) }
+mark-requires c = within_more _ _ _ c.found_first-t.ensures.within (omega arith)
 
 pub answer-requires : goal.answer-requires
-answer-requires c = record { room = chosen-room _ _ _ _ (omega arith) c.found_first-t.ensures; within = within_more _ _ _ c.found_first-t.ensures.within (omega arith) }
+answer-requires c = within_more _ _ _ c.found_first-t.ensures.within (omega arith)
