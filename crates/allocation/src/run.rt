@@ -25,7 +25,7 @@ impl<'a> Search<'a> {
 
     // The first block of the first run.
     // Kept: a loop and not `find_map`, which was tried: the library has no lemma that says what it finds over a range.
-    pub(crate) fn first_run(&self) -> Option<u64>
+    pub fn first_run(&self) -> Option<u64>
         requires { 0 < self.now.want }
         ensures { Says result (first_run self.now.blocks (clear self.now.map.now) self.now.want self.now.hint) }
     {

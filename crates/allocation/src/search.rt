@@ -9,7 +9,7 @@ use format::sizes::GROUP_BLOCKS;
 
 // The map, in which a free and untaken block is a clear bit; how many blocks it is of; the hint; and how many are wanted.
 #[derive(Clone, Copy)]
-pub(crate) struct Search<'a> {
+pub struct Search<'a> {
     pub(crate) map: &'a [u8],
     pub(crate) blocks: u64,
     pub(crate) hint: u64,
@@ -51,14 +51,14 @@ impl<'a> Search<'a> {
     }
 
     // The blocks that the search finds first, ascending.
-    pub(crate) fn found_first(&self, cursors: Cursors) -> Taken
+    pub fn found_first(&self, cursors: Cursors) -> Taken
         ensures { Chosen self.now.want self.now.blocks (found_bits self.now.map.now self.now.blocks self.now.hint cursors.past self.now.want) result }
     {
         self.take_groups(cursors).sorted()
     }
 
     // The first blocks of the first run, and where there is none the blocks that the search finds first.
-    pub(crate) fn choose(&self, cursors: Cursors) -> Taken
+    pub fn choose(&self, cursors: Cursors) -> Taken
         ensures { Chosen self.now.want self.now.blocks (chosen_bits self.now.map.now self.now.blocks self.now.hint cursors.past self.now.want) result }
     {
         if self.want == 0 {
