@@ -10,10 +10,10 @@ use format::sizes::GROUP_BLOCKS;
 // The map, in which a free and untaken block is a clear bit; how many blocks it is of; the hint; and how many are wanted.
 #[derive(Clone, Copy)]
 pub struct Search<'a> {
-    pub(crate) map: &'a [u8],
-    pub(crate) blocks: u64,
-    pub(crate) hint: u64,
-    pub(crate) want: usize,
+    pub map: &'a [u8],
+    pub blocks: u64,
+    pub hint: u64,
+    pub want: usize,
     ghost on_map: { OnMap blocks map.now },
     ghost of_unit: { want ≤ unit_blocks },
 }
