@@ -190,7 +190,7 @@ module _ (object : ℕ) (time : Time) (s : Store) where
         → P (refuse card_exists) 4 → P (refuse bad_time) 7 → P (refuse no_card_place) 8
         → (has_card (decode s) object ≡ false → time_wrong time ≡ false → cards_full (decode s) s ≡ false → P next 0)
         → P (first_case (enter_cases object time s) next) (enter_number (decode s).books.cards (book_places card_bytes s.cards) object time)
-    unfolding enter_cases first_case enter_number has_card cards_full card_of
+    unfolding enter_cases first_case enter_number has_card cards_full card_of pick◌then◌else◌ given find decode decode_with decode_books decode_book decode_head number_of time_wrong
     by_number next P a b c d =
         let h : Bool = given (find (λ c. eqb c.object object) (decode s).books.cards) in
         let w : Bool = time_wrong time in

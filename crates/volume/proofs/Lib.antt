@@ -4,3 +4,4 @@ pub mod WriteLaws
 pub mod ReadManyLaws
 pub mod StretchesLaws
 pub mod BatchLaws
+pub mod StoreLaws

@@ -25,7 +25,7 @@ enter_refused-requires c = cards-counted _ (not_stopped _ _ c.in_ok-refused.ensu
 pub returns-in_err-enter_refused : goal.returns-in_err-enter_refused
 unfolding number_in count_in
 returns-in_err-enter_refused c =
-    let e = err_from_is_err_and c.from_residual.result c.from_residual.ensures.1 in
+    let e = err_from_is_err_and c.from_residual-in_err-enter_refused.result c.from_residual-in_err-enter_refused.ensures.1 in
     rw (e.1, e.2) (enter-refused' _ _ _ (not_stopped _ _ c.in_ok-refused.ensures) _ c.card_count-n.ensures _ c.in_err-enter_refused.ensures (λ z. absurd (omega (arith, z, refusal-positive c.in_err-enter_refused.field-0.0))))
 
 pub enter_card-requires : goal.enter_card-requires
