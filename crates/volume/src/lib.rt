@@ -1,11 +1,13 @@
 // The public calls.
 //
 // Each call is lent the whole store, seven buffers, and then its own arguments. It tries its refusals in the order of their numbers, all of them before
-// it changes a byte, and answers a number and a count: a refused call gives its number with count 0 and leaves every buffer as it was. A batch of writes
-// does so for its own refusals, 1, 2 and 18; stopped by one of its writes it gives that refusal's number with the count of the writes before it.
+// it changes a byte, and answers its count or its refusal: a refused call leaves every buffer as it was. The four writes still answer by number and count,
+// as C has it. A batch of writes does so for its own refusals, 1, 2 and 18; stopped by one of its writes it gives that refusal's number with the count of
+// the writes before it.
 //
 // A call joins two parts: the tests, over the lent buffers as they are, and an inner call, which may take for granted that the tests passed. C calls
 // them by the exports of `volume_c`, of the same names.
+// Kept: a call takes the buffers one by one, as C lends them: some for reading, some for writing.
 #![tactic(auto)]
 
 ghost use Rattle.std.specs.Prelude.{◌≡◌, []};
@@ -25,7 +27,8 @@ use format::sizes::BLOCK_BYTES;
 use lent::{Store, View};
 use write::{ARCHIVE_RUNS, MOST_RUNS};
 
-// A call's answer, as C has it: 0 and a count, or the number of its refusal and 0.
+// A call's answer: 0 and a count, or the number of its refusal and 0.
+// Kept: a number beside a count, as C has it.
 #[repr(C)]
 #[derive(Clone, Copy)]
 pub struct Answer {

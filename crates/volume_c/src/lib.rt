@@ -1,5 +1,6 @@
 // The calls of `volume` for C, as include/sangueko.h declares them: each calls the function of the same name, and states its clause again. A slice is lent
 // as a pointer and its length, and the answer comes back by value.
+// Kept: a function to each call, with the buffers one by one, as C links and lends them.
 #![tactic(auto)]
 
 ghost use Rattle.std.specs.Prelude.{◌≡◌};
