@@ -4,15 +4,14 @@
 use mathlib.Core.Path.{◌≡◌, refl, sym, ap, ap₂, ◌∙◌}
 use mathlib.Core.List.{List, [], ◌∷◌, ◌++◌, append-nil, append_assoc}
 use Prim.Native.Nat.{ℕ, zero, suc, ◌+◌, ◌-◌, ◌*◌, ◌/◌, ◌%◌, ◌^◌, ◌≤◌, ◌<◌}
-use native.Mathlib.Nat.{suc-add, zero-add, add_comm, mul_assoc, mul_comm, pow-suc, div-one, div-div-eq-div-mul}
+use native.Mathlib.Nat.{add-sub_cancel_left, suc-add, zero-add, add_comm, mul_assoc, mul_comm, pow-suc, div-one, div-div-eq-div-mul}
 use native.Mathlib.Omega.{arith}
 use lib.Arith.{digits_div}
 use lib.Pow.{pow-add}
 use lib.ListN.{length, take, drop}
-use lib.Seq.{drop-drop, drop-length}
+use lib.Seq.{take-take, drop-drop, drop-length}
 use Rattle.rules.specs.Bytes.{be, le, be_digits, le_digits, part, patch}
 use Rattle.std.specs.Int.{byte_at, bytes_low_first, bytes_high_first}
-use Rattle.std.proofs.lemmas.List.{take_rest}
 use Rattle.rules.proofs.ByteLaws.{be-append, be-be_digits-fits, be_digits-above, le-le_digits-fits, length_part, part-add}
 
 -- ---- big-endian
@@ -45,10 +44,10 @@ part-is at n s = refl
 pub be-two : (s : List ℕ) (at n m : ℕ) → at + (n + m) ≤ length s → be (part at (n + m) s) ≡ be (part at n s) * 256 ^ m + be (part (at + n) m s)
 be-two s at n m h = rw (part-add s at n m, be-append (part at n s) (part (at + n) m s), length_part s (at + n) m (omega arith)) refl
 
--- the first n of the rest
-pub part-front : (s : List ℕ) (at n : ℕ) → take n (take (length s - at) (drop at s)) ≡ part at n s
+-- the first n of the n from at on
+pub part-front : (s : List ℕ) (at n : ℕ) → take n (take (at + n - at) (drop at s)) ≡ part at n s
 unfolding part
-part-front s at n = rw take_rest refl
+part-front s at n = rw (add-sub_cancel_left at n) (take-take n n (drop at s) (omega arith))
 
 -- ---- a patch
 

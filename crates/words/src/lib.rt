@@ -10,12 +10,13 @@ pub mod range;
 ghost use Rattle.std.specs.Prelude.{◌≡◌, ◌+◌, ◌≤◌, length};
 ghost use Rattle.rules.specs.Bytes.{be, le, be_digits, le_digits, part, patch};
 
-// The N bytes at `at`.
+// The N bytes at `at`. The slice is cut to N bytes first: its length is then known, and the compiler needs no test for
+// whether there is a first chunk.
 fn array_at<const N: usize>(s: &[u8], at: usize) -> [u8; N]
     requires { at + N ≤ length s.now }
     ensures { result ≡ part at N s.now }
 {
-    *s[at..].first_chunk().unwrap()
+    *s[at..at + N].first_chunk().unwrap()
 }
 
 // `bytes` at `at`.
