@@ -130,9 +130,9 @@ module _ (head cards list : List ℕ) (n i : ℕ) (d : n ≡ (decode_head head).
 
 -- ---- one read
 
-module _ (b : Looked) (cards list sizes : List ℕ) (i : ℕ) where
+module _ (b : Looked) (cards list sizes : List ℕ) (i made : ℕ) where
   -- a read whose card is missing
-  pub checked-none : 3 ≡ read_number b cards (triple_at list i) → ReadChecked b cards list sizes i sizes 3 0
+  pub checked-none : 3 ≡ read_number b cards (triple_at list i) → ReadChecked b cards list sizes i made sizes 3 made
   checked-none e = record {
     number = e;
     room = refl;
@@ -144,8 +144,8 @@ module _ (b : Looked) (cards list sizes : List ℕ) (i : ℕ) where
 
   -- one whose units were checked, and its size noted
   pub checked-some : (size r c : ℕ) → i < length sizes → SizeIs b.head cards (triple_at list i) size
-      → UnitsChecked b (triple_at list i).object size (units_read (triple_at list i) size) (pairs_before list sizes i) 17 r c
-      → ReadChecked b cards list sizes i (set sizes i size) r c
+      → UnitsChecked b (triple_at list i).object size (units_read (triple_at list i) size) (pairs_before list sizes i) made 17 r c
+      → ReadChecked b cards list sizes i made (set sizes i size) r c
   checked-some size r c l s x =
       let g : get_or (set sizes i size) i 0 ≡ size = get_or-set_same sizes i size 0 l in
       let d : sized_number b (triple_at list i) size ≡ first_number (unit_number b (triple_at list i).object size) (units_read (triple_at list i) size) = unfold sized_number in refl in
@@ -182,10 +182,10 @@ module _ (b : Looked) (cards list : List ℕ) where
       nothing : 0 ≡ different (pairs_before list sizes 0)
       nothing = unfold pairs_before range flat_map different in refl
 
-  module _ (sizes : List ℕ) (i made : ℕ) (h : ListPassed sizes i made) (left : List ℕ) (r c : ℕ) (x : ReadChecked b cards list sizes i left r c) (l : i < length list / triple_bytes) where
-    -- the next is refused
-    pub list-stop : (r ≡ 0 → ⊥) → ListChecked b cards list left r c
-    list-stop z = record {
+  module _ (sizes : List ℕ) (i made : ℕ) (h : ListPassed sizes i made) (left : List ℕ) (r c : ℕ) (x : ReadChecked b cards list sizes i made left r c) (l : i < length list / triple_bytes) where
+    -- the next is refused: the answer is the refusal, and of a count nothing is asked
+    pub list-stop : (r ≡ 0 → ⊥) → (d : ℕ) → ListChecked b cards list left r d
+    list-stop z d = record {
       number = sym (h.numbers ∙ ap (first_number (read_number b cards)) (from-here list i l) ∙ first-stop (read_number b cards) (triple_at list i) (triples_from list (i + 1)) (λ y. z (x.number ∙ y)) ∙ sym x.number);
       count = λ y. absurd (z y);
       noted = λ y. absurd (z y);
@@ -197,7 +197,7 @@ module _ (b : Looked) (cards list : List ℕ) where
     before-kept = flat_map-each (λ j. pairs_read (triple_at list j) (get_or left j 0)) (λ j. pairs_read (triple_at list j) (get_or sizes j 0)) (each_weaken (λ j m. ap (pairs_read (triple_at list j)) (x.kept j (omega (arith, m.1)))) (each-range 0 i))
 
     -- the next passes
-    pub list-more : r ≡ 0 → ListPassed left (i + 1) (made + c)
+    pub list-more : r ≡ 0 → ListPassed left (i + 1) c
     list-more z = record {
       room = x.room ∙ h.room;
       earlier = record { right = right; noted = noted };
@@ -220,7 +220,7 @@ module _ (b : Looked) (cards list : List ℕ) where
             go (yes e) = rw e (x.noted z)
             go (no d) = let k : j < i = omega (arith, m, d) in rw (x.kept j k) (h.earlier.noted j k)
 
-        counted : made + c ≡ different (pairs_before list left (i + 1))
+        counted : c ≡ different (pairs_before list left (i + 1))
         counted =
             let n : ℕ = get_or left i 0 in
             let w : different (pairs_before list sizes i ++ pairs_read (triple_at list i) n) ≡ different (pairs_before list sizes i) + new_units (pairs_before list sizes i) (triple_at list i).object (units_read (triple_at list i) n) = different-read (pairs_before list sizes i) (triple_at list i) n in

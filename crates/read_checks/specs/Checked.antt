@@ -1,6 +1,6 @@
 -- What checking the reads of a list one after another finds.
 -- Assumes nothing.
-use Rattle.std.specs.Prelude.{◌≡◌, ℕ, ◌/◌, ◌≤◌, ◌<◌, length, get_or}
+use Rattle.std.specs.Prelude.{◌≡◌, ℕ, ◌+◌, ◌/◌, ◌≤◌, ◌<◌, length, get_or}
 use mathlib.Core.List.{List, flat_map}
 use Rattle.rules.specs.Triples.{triple_bytes, decode_triples}
 use Rattle.rules.specs.Lists.{pick◌then◌else◌, any}
@@ -13,26 +13,28 @@ pub record Earlier (b : Looked) (cards list sizes : List ℕ) (i : ℕ) : Type 0
   pub right : (j : ℕ) → j < i → read_number b cards (triple_at list j) ≡ 0
   pub noted : (j : ℕ) → j < i → SizeIs b.head cards (triple_at list j) (get_or sizes j 0)
 
--- a unit of object's file of this size was checked: r refuses it, or c inspections were made, one where it is in none of these pairs
-pub record NewChecked (b : Looked) (object size unit : ℕ) (ps : List Pair) (r c : ℕ) : Type 0 where
+-- a unit of object's file of this size was checked, after `made` inspections: r refuses it, and c were made by then,
+-- whether it is refused or not: one more where it is in none of these pairs
+pub record NewChecked (b : Looked) (object size unit : ℕ) (ps : List Pair) (made r c : ℕ) : Type 0 where
   pub number : r ≡ unit_number b object size unit
-  pub count : r ≡ 0 → c ≡ (pick any (same_pair (pair_is object unit)) ps then 0 else 1)
-  pub most : c ≤ 1
+  pub count : c ≡ made + (pick any (same_pair (pair_is object unit)) ps then 0 else 1)
 
--- units of it were: r refuses the first that is refused, or c inspections were made, one for each that is in none of these pairs
-pub record UnitsChecked (b : Looked) (object size : ℕ) (us : List ℕ) (ps : List Pair) (limit r c : ℕ) : Type 0 where
+-- units of it were, after `made` inspections: r refuses the first that is refused, and c were made by then, at most
+-- `limit` more: where none is refused, one for each that is in none of these pairs
+pub record UnitsChecked (b : Looked) (object size : ℕ) (us : List ℕ) (ps : List Pair) (made limit r c : ℕ) : Type 0 where
   pub number : r ≡ first_number (unit_number b object size) us
-  pub count : r ≡ 0 → c ≡ new_units ps object us
-  pub most : c ≤ limit
+  pub count : r ≡ 0 → c ≡ made + new_units ps object us
+  pub most : c ≤ made + limit
 
--- the i-th read was checked: r refuses it, or c inspections were made, and the sizes are `left`. A unit was inspected for each that no read before it touches
-pub record ReadChecked (b : Looked) (cards list sizes : List ℕ) (i : ℕ) (left : List ℕ) (r c : ℕ) : Type 0 where
+-- the i-th read was checked, after `made` inspections: r refuses it, c were made by then, and the sizes are `left`.
+-- A unit was inspected for each that no read before it touches
+pub record ReadChecked (b : Looked) (cards list sizes : List ℕ) (i made : ℕ) (left : List ℕ) (r c : ℕ) : Type 0 where
   pub number : r ≡ read_number b cards (triple_at list i)
   pub room : length left ≡ length sizes
   pub kept : (j : ℕ) → j < i → get_or left j 0 ≡ get_or sizes j 0
   pub noted : r ≡ 0 → SizeIs b.head cards (triple_at list i) (get_or left i 0)
-  pub count : r ≡ 0 → c ≡ new_units (pairs_before list sizes i) (triple_at list i).object (units_read (triple_at list i) (get_or left i 0))
-  pub most : c ≤ 17
+  pub count : r ≡ 0 → c ≡ made + new_units (pairs_before list sizes i) (triple_at list i).object (units_read (triple_at list i) (get_or left i 0))
+  pub most : c ≤ made + 17
 
 -- all were, r refuses them and c inspections were made: the first refusal, or as many inspections as there are different units, and every size
 pub record ListChecked (b : Looked) (cards list left : List ℕ) (r c : ℕ) : Type 0 where

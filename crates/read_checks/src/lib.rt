@@ -1,7 +1,8 @@
 // The reads of a list checked one after another, refusals 1, 2 and 17 past: each unit that they touch is inspected once.
 //
-// A unit is inspected where no read before has it, and the count of inspections goes up there and nowhere else; so it is the number of different units. What
-// a read touches is told by its triple and the size of its file, which is noted for each read.
+// A unit is inspected where no read before has it, and the count of inspections goes up there and nowhere else; so it
+// is the number of different units. What a read touches is told by its triple and the size of its file, which is noted
+// for each read. The count is lent from function to function, so that each says of it on a refusal too.
 #![tactic(auto)]
 
 ghost use Rattle.std.specs.Prelude.{◌≡◌, true, ℕ, ◌+◌, ◌*◌, ◌/◌, ◌^◌, ◌≤◌, ◌<◌, length};
@@ -56,7 +57,7 @@ fn seen_before(list: &[u8], sizes: &[u64], i: usize, object: u64, unit: u64) -> 
     false
 }
 
-// A unit inspected.
+// A unit inspected, and one inspection more counted, whether it is refused or not. Nothing else inspects or counts.
 fn check_unit(
     t: &[u32; 4096],
     w: &mut [u8],
@@ -67,19 +68,22 @@ fn check_unit(
     object: u64,
     size: u64,
     unit: u64,
+    made: &mut u64,
 ) -> Result<(), Refusal>
     requires tables { Tables t.now }
     requires w_len { length w.old ≡ 4624 }
     requires head_len { length head.now ≡ head_bytes }
     requires readable { Readable image.now extents.now groups.now (decode_head head.now).extents (decode_head head.now).groups }
     requires unit_bytes_bound { unit * unit_bytes < size }
-    ensures { number_in result ≡ unit_number (looked image.now head.now extents.now groups.now) object size unit }
+    requires made_bound { made.old + 1 < 2 ^ 64 }
+    ensures { (number_in result ≡ unit_number (looked image.now head.now extents.now groups.now) object size unit) × (made.new ≡ made.old + 1) }
 {
     let h = format::head::decode_head(head);
     let uuid = h.uuid;
     let e = h.extents as usize;
     let g = h.groups as usize;
     let mut blocks = [0u32; UNIT_BLOCKS];
+    *made += 1;
     read::check_range(
         t,
         w,
@@ -111,21 +115,22 @@ fn check_new(
     object: u64,
     size: u64,
     unit: u64,
-) -> Result<u64, Refusal>
+    made: &mut u64,
+) -> Result<(), Refusal>
     requires tables { Tables t.now }
     requires w_len { length w.old ≡ 4624 }
     requires head_len { length head.now ≡ head_bytes }
     requires readable { Readable image.now extents.now groups.now (decode_head head.now).extents (decode_head head.now).groups }
     requires i_in_bounds { (triple_bytes * i ≤ length list.now) × (i ≤ length sizes.now) }
     requires unit_bytes_bound { unit * unit_bytes < size }
+    requires made_bound { made.old + 1 < 2 ^ 64 }
     requires unit_value { any (same_pair (pair_is object unit)) (pairs_before list.now sizes.now i) ≡ true → unit_number (looked image.now head.now extents.now groups.now) object size unit ≡ 0 }
-    ensures { NewChecked (looked image.now head.now extents.now groups.now) object size unit (pairs_before list.now sizes.now i) (number_in result) (count_in result) }
+    ensures { NewChecked (looked image.now head.now extents.now groups.now) object size unit (pairs_before list.now sizes.now i) made.old (number_in result) made.new }
 {
     if seen_before(list, sizes, i, object, unit) {
-        return Ok(0);
+        return Ok(());
     }
-    check_unit(t, w, image, head, extents, groups, object, size, unit)?;
-    Ok(1)
+    check_unit(t, w, image, head, extents, groups, object, size, unit, made)
 }
 
 // The `k` units from `first` on of the read at place `i`.
@@ -143,24 +148,25 @@ fn check_stretch(
     size: u64,
     first: u64,
     k: usize,
-) -> Result<u64, Refusal>
+    made: &mut u64,
+) -> Result<(), Refusal>
     requires tables { Tables t.now }
     requires w_len { length w.old ≡ 4624 }
     requires head_len { length head.now ≡ head_bytes }
     requires readable { Readable image.now extents.now groups.now (decode_head head.now).extents (decode_head head.now).groups }
     requires i_in_bounds { (triple_bytes * i ≤ length list.now) × (i ≤ length sizes.now) }
     requires unit_bytes_bound { (first + k) * unit_bytes < size + unit_bytes }
+    requires k_bound { made.old + k < 2 ^ 64 }
     requires by_index { (u : ℕ) → any (same_pair (pair_is object u)) (pairs_before list.now sizes.now i) ≡ true → unit_number (looked image.now head.now extents.now groups.now) object size u ≡ 0 }
-    ensures { UnitsChecked (looked image.now head.now extents.now groups.now) object size (range first k) (pairs_before list.now sizes.now i) k (number_in result) (count_in result) }
+    ensures { UnitsChecked (looked image.now head.now extents.now groups.now) object size (range first k) (pairs_before list.now sizes.now i) made.old k (number_in result) made.new }
 {
-    let mut made: u64 = 0;
     for j in 0..k {
         let unit = first + j as u64;
-        made += check_new(
-            t, w, image, head, extents, groups, list, sizes, i, object, size, unit,
+        check_new(
+            t, w, image, head, extents, groups, list, sizes, i, object, size, unit, made,
         )?;
     }
-    Ok(made)
+    Ok(())
 }
 
 // The read at place `i`, of a file of this size.
@@ -175,19 +181,21 @@ fn check_sized(
     sizes: &[u64],
     i: usize,
     size: u64,
-) -> Result<u64, Refusal>
+    made: &mut u64,
+) -> Result<(), Refusal>
     requires tables { Tables t.now }
     requires w_len { length w.old ≡ 4624 }
     requires head_len { length head.now ≡ head_bytes }
     requires readable { Readable image.now extents.now groups.now (decode_head head.now).extents (decode_head head.now).groups }
     requires triple_bytes_in_bounds { (triple_bytes * i + triple_bytes ≤ length list.now) × (i ≤ length sizes.now) }
+    requires made_bound { made.old + 17 < 2 ^ 64 }
     requires by_index { (u : ℕ) → any (same_pair (pair_is (triple_at list.now i).object u)) (pairs_before list.now sizes.now i) ≡ true → unit_number (looked image.now head.now extents.now groups.now) (triple_at list.now i).object size u ≡ 0 }
-    ensures { UnitsChecked (looked image.now head.now extents.now groups.now) (triple_at list.now i).object size (units_read (triple_at list.now i) size) (pairs_before list.now sizes.now i) 17 (number_in result) (count_in result) }
+    ensures { UnitsChecked (looked image.now head.now extents.now groups.now) (triple_at list.now i).object size (units_read (triple_at list.now i) size) (pairs_before list.now sizes.now i) made.old 17 (number_in result) made.new }
 {
     let x = triples::triple_at(list, i);
     let n = read::read_length(size, x.offset, x.len as usize);
     if n == 0 {
-        return Ok(0);
+        return Ok(());
     }
     let k = read::units_touched(x.offset, n);
     check_stretch(
@@ -204,6 +212,7 @@ fn check_sized(
         size,
         x.offset / UNIT_BYTES as u64,
         k,
+        made,
     )
 }
 
@@ -220,20 +229,24 @@ fn check_read(
     list: &[u8],
     sizes: &mut [u64],
     i: usize,
-) -> Result<u64, Refusal>
+    made: &mut u64,
+) -> Result<(), Refusal>
     requires tables { Tables t.now }
     requires w_len { length w.old ≡ 4624 }
     requires read_ready { ReadReady image.now head.now cards.now extents.now groups.now }
     requires n_value { n ≡ (decode_head head.now).cards }
     requires triple_bytes_in_bounds { (triple_bytes * i + triple_bytes ≤ length list.now) × (i < most_triples) × (length sizes.old ≡ most_triples) }
+    requires made_bound { made.old + 17 < 2 ^ 64 }
     requires earlier { Earlier (looked image.now head.now extents.now groups.now) cards.now list.now sizes.old i }
-    ensures { ReadChecked (looked image.now head.now extents.now groups.now) cards.now list.now sizes.old i sizes.new (number_in result) (count_in result) }
+    ensures { ReadChecked (looked image.now head.now extents.now groups.now) cards.now list.now sizes.old i made.old sizes.new (number_in result) made.new }
 {
     let x = triples::triple_at(list, i);
     match book::find::find_card(cards, n, x.object) {
         Some(c) => {
             let size = format::card::card_size(cards, CARD_BYTES * c);
-            let r = check_sized(t, w, image, head, extents, groups, list, sizes, i, size);
+            let r = check_sized(
+                t, w, image, head, extents, groups, list, sizes, i, size, made,
+            );
             sizes[i] = size;
             r
         }
@@ -263,7 +276,9 @@ fn check_reads(
 {
     let mut made: u64 = 0;
     for i in 0..list.len() / TRIPLE_BYTES {
-        made += check_read(t, w, image, head, cards, n, extents, groups, list, sizes, i)?;
+        check_read(
+            t, w, image, head, cards, n, extents, groups, list, sizes, i, &mut made,
+        )?;
     }
     Ok(made)
 }

@@ -11,21 +11,17 @@ use Rattle.read_checks.proofs.check_reads.Goals as goal
 pub loop-i-init : goal.loop-i-init
 loop-i-init c = let p = c.requires in list-none _ _ _ _ p.triple_bytes_len_bound.1
 
-pub returns-in_err-made : goal.returns-in_err-made
+pub returns-in_err-check_read : goal.returns-in_err-check_read
 unfolding number_in count_in
-returns-in_err-made c =
+returns-in_err-check_read c =
     let e = err_from_is_err_and c.from_residual.result c.from_residual.ensures.1 in
-    let r = c.in_err-made in
-    rw (e.1, e.2) (list-stop _ _ _ _ _ _ c.loop-i.invariant _ _ _ r.ensures c.loop-i-test.true (λ z. absurd (omega (arith, z, refusal-positive r.field-0.0))))
+    let r = c.in_err-check_read in
+    rw (e.1, e.2) (list-stop _ _ _ _ _ _ c.loop-i.invariant _ _ _ r.ensures c.loop-i-test.true (λ z. absurd (omega (arith, z, refusal-positive r.field-0.0))) 0)
 
 pub loop-i-preserved : goal.loop-i-preserved
 unfolding number_in count_in
-loop-i-preserved c = list-more _ _ _ _ _ _ c.loop-i.invariant _ 0 _ c.in_ok-made.ensures c.loop-i-test.true refl
+loop-i-preserved c = list-more _ _ _ _ _ _ c.loop-i.invariant _ 0 _ c.in_ok-check_read.ensures c.loop-i-test.true refl
 
 pub returns : goal.returns
 unfolding number_in count_in
 returns c = let i = c.loop-i.invariant in list_all _ _ _ _ _ _ i (omega arith) c.loop-i-test.false
-
-pub overflow_add-made : goal.overflow_add-made
-unfolding count_in
-overflow_add-made c = omega (arith, c.loop-i.invariant.most, c.in_ok-made.ensures.most, c.loop-i-test.true, c.requires.triple_bytes_len_bound.0)

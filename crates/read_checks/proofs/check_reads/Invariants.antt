@@ -1,4 +1,4 @@
--- `read_checks::check_reads` meets its contract. The loop keeps: the first `i` reads are right, and so many inspections have been made.
+-- `read_checks::check_reads` meets its contract. The loop keeps: the first `i` reads are right, and `made` inspections have been made.
 -- Assumes nothing.
 use Rattle.read_checks.specs.Reads.{looked}
 use Rattle.read_checks.proofs.CheckedLaws.{ListPassed}
