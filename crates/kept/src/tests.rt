@@ -56,6 +56,17 @@ pub fn touches(offset: u64, len: usize, unit: u64) -> bool
     written_in(offset, len, start, start + UNIT_BYTES as u64)
 }
 
+// Whether the unit's old bytes are read: there are some, and the write does not cover all of them. A write over all of them needs no read, so
+// that damaged contents can be overwritten.
+pub fn reads_old(old_size: u64, offset: u64, len: usize, unit: u64) -> bool
+    requires { (offset + len ≤ most_size) × (unit * unit_bytes ≤ most_size) }
+    ensures { (c : rules.Change) (after : ℕ) → IsChange c old_size after offset len → result ≡ reads_old c unit }
+{
+    let start = unit * UNIT_BYTES as u64;
+    let old_valid = valid_length(old_size, unit) as u64;
+    old_valid != 0 && (start < offset || offset + (len as u64) < start + old_valid)
+}
+
 // Whether the written bytes are all of the unit's new bytes: nothing of it is then read or put together.
 pub fn covers_new(offset: u64, len: usize, new_size: u64, unit: u64) -> bool
     requires { (offset + len ≤ most_size) × (unit * unit_bytes ≤ most_size) }
@@ -65,6 +76,22 @@ pub fn covers_new(offset: u64, len: usize, new_size: u64, unit: u64) -> bool
     offset <= start && start + valid_length(new_size, unit) as u64 <= offset + len as u64
 }
 
+// Where the written bytes of the unit begin in the file.
+pub fn written_from(offset: u64, unit: u64) -> u64
+    requires { unit * unit_bytes ≤ most_size }
+    ensures { result ≡ max offset (unit * unit_bytes) }
+{
+    offset.max(unit * UNIT_BYTES as u64)
+}
+
+// Where they end, the place itself not included.
+pub fn written_to(offset: u64, len: usize, unit: u64) -> u64
+    requires { (offset + len ≤ most_size) × (unit * unit_bytes ≤ most_size) }
+    ensures { result ≡ min (offset + len) (unit * unit_bytes + unit_bytes) }
+{
+    (offset + len as u64).min(unit * UNIT_BYTES as u64 + UNIT_BYTES as u64)
+}
+
 // The caller's part of a unit that the write touches.
 pub fn written_part(offset: u64, len: usize, unit: u64) -> Part
     requires len_bound { (offset + len ≤ most_size) × (unit * unit_bytes ≤ most_size) }
@@ -72,13 +99,12 @@ pub fn written_part(offset: u64, len: usize, unit: u64) -> Part
     ensures placed { (c : rules.Change) (before after : ℕ) → IsChange c before after offset len → Placed c unit result }
     ensures count_bound { (result.from + result.count ≤ len) × (result.at + result.count ≤ unit_bytes) }
 {
-    let start = unit * UNIT_BYTES as u64;
-    let from = offset.max(start);
-    let to = (offset + len as u64).min(start + UNIT_BYTES as u64);
+    let from = written_from(offset, unit);
+    let to = written_to(offset, len, unit);
     Part {
         from: (from - offset) as usize,
         count: (to - from) as usize,
-        at: (from - start) as usize,
+        at: (from - unit * UNIT_BYTES as u64) as usize,
     }
 }
 
@@ -99,15 +125,12 @@ impl Change {
         touches(self.offset, self.len, unit)
     }
 
-    // Whether the unit's old bytes are read: there are some, and the write does not cover all of them. A write over all of them needs no read, so
-    // that damaged contents can be overwritten.
+    // Whether the unit's old bytes are read.
     pub fn reads_old(self, unit: u64) -> bool
         requires { unit * unit_bytes ≤ most_size }
         ensures { (c : rules.Change) (after : ℕ) → IsChange c self.old_size after self.offset self.len → result ≡ reads_old c unit }
     {
-        let start = unit * UNIT_BYTES as u64;
-        let old_valid = valid_length(self.old_size, unit) as u64;
-        old_valid != 0 && (start < self.offset || self.end() < start + old_valid)
+        reads_old(self.old_size, self.offset, self.len, unit)
     }
 
     // Whether the written bytes are all of the unit's new bytes: nothing of it is then read or put together.
