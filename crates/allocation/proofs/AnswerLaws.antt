@@ -48,12 +48,12 @@ hint_is blocks hint r (Some b) P i h f = f b h ∙ rw (i.3.1 0) (sym (hint_after
 -- ---- what is past the highest
 
 -- a block that lies below it
-above_kept : (past b : ℕ) → b < past → past ≡ above past b
+pub above_kept : (past b : ℕ) → b < past → past ≡ above past b
 unfolding above
 above_kept past b l = sym (if-true (ltb b past) past (suc b) (lt-ltb b past l))
 
 -- a block that is the highest
-above-up : (past b : ℕ) → past ≤ b → b + 1 ≡ above past b
+pub above-up : (past b : ℕ) → past ≤ b → b + 1 ≡ above past b
 unfolding above
 above-up past b l = add-one b ∙ sym (if-false (ltb b past) past (suc b) (le-ltb b past l))
 

@@ -39,7 +39,7 @@ flat_map-map s f (x ∷ xs) = ap (λ t. s (f x) ++ t) (flat_map-map s f xs)
 -- ---- the order of the search
 
 -- where the code starts in a group is where the rules do
-start-cursor : (blocks : ℕ) (taken : List ℕ) (g : ℕ) → start_at (group_start g) (group_end blocks g) (past_highest blocks taken g) ≡ cursor blocks taken g
+pub start-cursor : (blocks : ℕ) (taken : List ℕ) (g : ℕ) → start_at (group_start g) (group_end blocks g) (past_highest blocks taken g) ≡ cursor blocks taken g
 start-cursor blocks taken g = go (highest blocks taken g) refl
   where
     go : (o : Option ℕ) → highest blocks taken g ≡ o → start_at (group_start g) (group_end blocks g) (past_highest blocks taken g) ≡ cursor blocks taken g
@@ -55,7 +55,7 @@ start-cursor blocks taken g = go (highest blocks taken g) refl
         sym (start-inside (group_start g) (group_end blocks g) (suc b) (omega arith) (omega arith)) ∙ sym (if-false (eqb (suc b) (group_end blocks g)) (group_start g) (suc b) t)))
 
 -- the bits in the order of the search are the blocks that the rules find
-bits-found : (blocks : ℕ) (used : ℕ → Bool) (hint : ℕ) (taken m past : List ℕ) → Carried blocks used taken m past → bits_from m blocks hint past 0 ≡ found blocks used hint taken
+pub bits-found : (blocks : ℕ) (used : ℕ → Bool) (hint : ℕ) (taken m past : List ℕ) → Carried blocks used taken m past → bits_from m blocks hint past 0 ≡ found blocks used hint taken
 unfolding group_order group_bits clear_bits clear bits_from
 bits-found blocks used hint taken m past c =
     let groups : ℕ = allocation_groups blocks in
@@ -80,7 +80,7 @@ swap false true c = refl
 swap false false c = refl
 
 -- a block put in is one of the blocks
-member-insert : (b x : ℕ) (ys : List ℕ) → member b (insert ltb x ys) ≡ (eqb b x || member b ys)
+pub member-insert : (b x : ℕ) (ys : List ℕ) → member b (insert ltb x ys) ≡ (eqb b x || member b ys)
 member-insert b x [] = unfold insert in member-cons b x []
 member-insert b x (y ∷ ys) =
     let P : Type 0 = member b (insert ltb x (y ∷ ys)) ≡ (eqb b x || member b (y ∷ ys)) in
@@ -122,7 +122,7 @@ inserts-ascending ys (z ∷ zs) h d o =
     rw (inserts-cons ys z zs) (inserts-ascending (insert ltb z ys) zs (ascending-insert ltb z ys h (apart z zs ys d)) (λ b m. later b z zs ys d o m) (once-tail z zs o))
 
 -- distinct blocks of the store, put in one after another, are those blocks ascending
-inserts-sorted : (blocks : ℕ) (zs : List ℕ) → Once zs → Each (λ b. b < blocks) zs → inserts [] zs ≡ sorted blocks zs
+pub inserts-sorted : (blocks : ℕ) (zs : List ℕ) → Once zs → Each (λ b. b < blocks) zs → inserts [] zs ≡ sorted blocks zs
 inserts-sorted blocks zs o l =
     ascending-same (inserts [] zs) (sorted blocks zs)
     (inserts-ascending [] zs (unfold neighbours in refl) (λ b m. absurd (clash (member-nil b) m)) o)

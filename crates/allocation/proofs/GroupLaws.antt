@@ -9,7 +9,7 @@ use native.Mathlib.Omega.{arith}
 use Rattle.std.specs.Int.{div_ceil}
 use lib.Dec.{ltb}
 use lib.ListN.{length, get_or, take}
-use lib.Seq.{take_all}
+use lib.Seq.{take_at, take_all}
 use borrow.Author.Tests.{lt-ltb, le-ltb}
 use Rattle.rules.specs.Allocation.{allocation_groups, group_start, group_end}
 use Rattle.rules.proofs.ListLaws.{if-true, if-false, and_intro}
@@ -47,7 +47,7 @@ unfolding allocation_groups
 group-start blocks g l = omega arith
 
 -- the blocks of two runs, one after the other
-collected-runs : (want : ℕ) (ys zs ws : List ℕ) (r s : Taken) → Collected want ys zs r → Collected want (held r) ws s → Collected want ys (zs ++ ws) s
+pub collected-runs : (want : ℕ) (ys zs ws : List ℕ) (r s : Taken) → Collected want ys zs r → Collected want (held r) ws s → Collected want ys (zs ++ ws) s
 collected-runs want ys zs ws r s p q =
     record {
       list = q.list ∙ rw p.list (take_again want (ys ++ zs) ws) ∙ ap (take want) (append_assoc ys zs ws);
@@ -99,6 +99,13 @@ module _ (map : List ℕ) (blocks hint : ℕ) (past : List ℕ) (want : ℕ) whe
         room = c.room;
         rest = rw c.list (take_again want (held t ++ bits) later) ∙ ap (take want) (append_assoc (held t) bits later ∙ ap (λ (v : List ℕ). held t ++ v) (sym n)) ∙ s.rest;
       }
+
+  -- as many as wanted
+  pub grouping-full : (t : Taken) (i : ℕ) → Grouping map blocks hint past want t i → want ≤ t.count → Collected want [] (bits_from map blocks hint past 0) t
+  grouping-full t i s l =
+      let f : t.count ≤ want = s.room.fits in
+      let e : length (held t) ≡ t.count = held-count t in
+      record { list = sym (take_at (held t) (bits_from map blocks hint past i) want (omega arith)) ∙ s.rest; room = s.room }
 
   -- all groups
   pub grouping-all : (t : Taken) (i groups : ℕ) → Grouping map blocks hint past want t i → groups ≡ allocation_groups blocks → groups ≤ i → Collected want [] (bits_from map blocks hint past 0) t

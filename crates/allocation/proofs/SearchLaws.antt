@@ -39,19 +39,19 @@ clear-passed map a e r h =
     ∙ ap (λ (t : List ℕ). t ++ filter (clear map) (range r (e - r))) none
 
 -- the next clear bit is the first of a run's
-next-found : (map : List ℕ) (a e r : ℕ) → Next map false a e r → r < e → clear_bits map a e ≡ r ∷ clear_bits map (r + 1) e
+pub next-found : (map : List ℕ) (a e r : ℕ) → Next map false a e r → r < e → clear_bits map a e ≡ r ∷ clear_bits map (r + 1) e
 next-found map a e r h l =
     clear-passed map a e r h
     ∙ rw (add-one r)
     (unfold clear_bits in rw (range-first r e l) (filter-yes (clear map) r (range (suc r) (e - suc r)) (unfold clear in rw (h.found l) refl)))
 
 -- a run without one has none
-next-nothing : (map : List ℕ) (a e r : ℕ) → Next map false a e r → r ≡ e → clear_bits map a e ≡ []
+pub next-nothing : (map : List ℕ) (a e r : ℕ) → Next map false a e r → r ≡ e → clear_bits map a e ≡ []
 next-nothing map a e r h l =
     clear-passed map a e r h ∙ (unfold clear_bits in rw (range_none r (e - r) (omega arith)) (unfold filter in refl))
 
 -- what was passed over is passed over
-next-skipped : (map : List ℕ) (a e n r : ℕ) → Skipped map a e n → Next map false n e r → Next map false a e r
+pub next-skipped : (map : List ℕ) (a e n r : ℕ) → Skipped map a e n → Next map false n e r → Next map false a e r
 next-skipped map a e n r s h =
     let p : a ≤ n = s.least in
     let q : n ≤ r = h.least in
@@ -61,6 +61,26 @@ next-skipped map a e n r s h =
       before = λ k u v. test-cases (bit_set map k ≡ true) (ltb k n) (λ t. s.before k u (ltb-true k n t)) (λ t. h.before k (ltb-false k n t) v);
       found = h.found;
     }
+
+-- nothing has been passed over
+pub skipped-none : (map : List ℕ) (a e : ℕ) → a ≤ e → Skipped map a e a
+skipped-none map a e l = record { least = omega arith; most = l; before = λ k p q. absurd (omega arith) }
+
+-- a word of ones is
+pub skipped-word : (map : List ℕ) (a e n w : ℕ) → Bytes map → Skipped map a e n → n % 8 ≡ 0 → n + 64 ≤ e → w ≡ le (part (n / 8) 8 map) → w ≡ 0xffffffffffffffff → Skipped map a e (n + 64)
+skipped-word map a e n w b s z l d f =
+    let p : a ≤ n = s.least in
+    record {
+      least = omega arith;
+      most = l;
+      before = λ k u v. test-cases (bit_set map k ≡ true) (ltb k n) (λ t. s.before k u (ltb-true k n t))
+          (λ t. let q : n ≤ k = ltb-false k n t in
+          let i : n + (k - n) ≡ k = omega arith in
+          ap (bit_set map) (sym i) ∙ sym (word-bit map n w (k - n) d z b (omega arith)) ∙ ap (λ (x : ℕ). bit_of x (k - n)) f ∙ one (k - n) (omega arith));
+    }
+  where
+    one : (j : ℕ) → j < 64 → bit_of 0xffffffffffffffff j ≡ true
+    one j m = bit_not 64 0 j (omega arith) m ∙ ap not (bit-zero j)
 
 -- and the next clear bit, or none
 pub next_free : (map : List ℕ) (a e n p : ℕ) (r : Option ℕ) → Skipped map a e n → Next map false n e p → r ≡ then_some (ltb p e) p → NextBefore map false a e r

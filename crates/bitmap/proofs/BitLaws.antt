@@ -10,11 +10,8 @@ use native.Mathlib.Decide.{dec_lt}
 use native.Mathlib.Numerals.{one-add}
 use native.Mathlib.Omega.{arith}
 use lib.Bits.{bit_and, bit_or, and_shr, or_shr, and_step, or_step, or_lt, and_lt}
-use lib.Count.{count_trailing_zeros}
+use lib.Count.{count_trailing_zeros, under}
 use Rattle.std.proofs.lemmas.Nat.{trailing_le}
-use Rattle.std.proofs.lemmas.Nat.Bits.{bit_at-trailing_zeros}
-use Rattle.std.specs.Int.{w64}
-use Rattle.std.specs.Int.Count.{trailing_of_zero}
 use lib.Dec.{eqb, eqb-zero-suc, eqb-suc-zero, eqb-suc-suc}
 use lib.ListN.{get_or}
 use lib.Pow.{pow-lt, shl_exact, shr-shr}
@@ -119,7 +116,7 @@ half_pow : (k : ℕ) → 2 ^ suc k / 2 ≡ 2 ^ k
 half_pow k = rw (pow-suc 2 k) (omega arith)
 
 -- a power of two has the one bit
-bit-pow : (k j : ℕ) → bit_of (2 ^ k) j ≡ eqb j k
+pub bit-pow : (k j : ℕ) → bit_of (2 ^ k) j ≡ eqb j k
 bit-pow zero zero = bit-low 1
 bit-pow zero (suc j) = bit-half 1 j ∙ bit-zero j ∙ sym (eqb-suc-zero j)
 bit-pow (suc k) zero =
@@ -211,13 +208,31 @@ bit_le (x ∷ xs) b (suc q) r h =
 
 -- ---- trailing zeros
 
--- they lead to the first set bit
-first-set : (w : ℕ) → w < 2 ^ 64 → First w true (count_trailing_zeros 64 w)
-unfolding bit_of
-first-set zero l = rw (trailing_of_zero 64) (record { most = omega arith; before = λ j h. bit-zero j; found = λ h. absurd (omega arith) })
-first-set (suc n) l =
-    let p = bit_at-trailing_zeros w64 (suc n) (omega arith) l in
-    record { most = trailing_le 64 (suc n); before = λ j h. rw (p.2 j h) refl; found = λ h. rw p.1 refl }
+-- the bits below are clear
+trailing-before : (k x j : ℕ) → j < count_trailing_zeros k x → bit_of x j ≡ false
+unfolding count_trailing_zeros
+trailing-before zero x j h = absurd (not-suc-le-zero h)
+trailing-before (suc k) x j h = go j (x % 2) refl (λ i l. trailing-before k (x / 2) i l) h
+  where
+    go : (j d : ℕ) → x % 2 ≡ d → ((i : ℕ) → i < count_trailing_zeros k (x / 2) → bit_of (x / 2) i ≡ false) → j < under d (count_trailing_zeros k (x / 2)) → bit_of x j ≡ false
+    go j (suc d) e r h = absurd (not-suc-le-zero h)
+    go zero zero e r h = bit-low x ∙ rw e refl
+    go (suc i) zero e r h = bit-half x i ∙ r i (omega arith)
+
+-- and the bit that is reached is set
+trailing-found : (k x : ℕ) → count_trailing_zeros k x < k → bit_of x (count_trailing_zeros k x) ≡ true
+unfolding count_trailing_zeros
+trailing-found zero x h = absurd (not-suc-le-zero h)
+trailing-found (suc k) x h = go (x % 2) refl (omega arith) (trailing-found k (x / 2)) h
+  where
+    go : (d : ℕ) → x % 2 ≡ d → d < 2 → (count_trailing_zeros k (x / 2) < k → bit_of (x / 2) (count_trailing_zeros k (x / 2)) ≡ true) → under d (count_trailing_zeros k (x / 2)) < suc k → bit_of x (under d (count_trailing_zeros k (x / 2))) ≡ true
+    go zero e l r h = bit-half x (count_trailing_zeros k (x / 2)) ∙ r (omega arith)
+    go (suc zero) e l r h = bit-low x ∙ rw e refl
+    go (suc (suc d)) e l r h = absurd (omega arith)
+
+-- so they lead to the first set bit
+first-set : (w : ℕ) → First w true (count_trailing_zeros 64 w)
+first-set w = record { most = trailing_le 64 w; before = λ j h. trailing-before 64 w j h; found = λ h. trailing-found 64 w h }
 
 -- an inversion on the other side
 pub not-swap : (a b : Bool) → not a ≡ b → a ≡ not b
@@ -227,7 +242,7 @@ not-swap false b e = ap not e
 -- and those of the inverted word to the first clear one
 first-clear : (w : ℕ) → w < 2 ^ 64 → First w false (count_trailing_zeros 64 (2 ^ 64 - 1 - w))
 first-clear w l =
-    let f : First (2 ^ 64 - 1 - w) true (count_trailing_zeros 64 (2 ^ 64 - 1 - w)) = first-set (2 ^ 64 - 1 - w) (omega arith) in
+    let f : First (2 ^ 64 - 1 - w) true (count_trailing_zeros 64 (2 ^ 64 - 1 - w)) = first-set (2 ^ 64 - 1 - w) in
     record {
       most = f.most;
       before = λ j h. not-swap (bit_of w j) false (sym (bit_not 64 w j l (omega (arith, f.most))) ∙ f.before j h);
@@ -249,7 +264,7 @@ byte-alike true j h = bit_not 8 0 j (omega arith) h ∙ rw (bit-zero j) refl
 byte-alike false j h = bit-zero j
 
 -- it is a word
-alike-lt : (b : Bool) → (pick b then 0xffffffffffffffff else 0) < 2 ^ 64
+pub alike-lt : (b : Bool) → (pick b then 0xffffffffffffffff else 0) < 2 ^ 64
 unfolding pick◌then◌else◌
 alike-lt true = omega arith
 alike-lt false = omega arith
@@ -280,8 +295,8 @@ pub clear-asked : (x k : ℕ) (b : Bool) → b ≡ false → x < 256 → k < 8 �
 clear-asked x k b e h l = rw e (bit-cleared x k h l)
 
 -- where a set bit is looked for
-pub first-set-asked : (w : ℕ) (b : Bool) → b ≡ true → w < 2 ^ 64 → First w b (count_trailing_zeros 64 w)
-first-set-asked w b e l = rw e (first-set w l)
+pub first-set-asked : (w : ℕ) (b : Bool) → b ≡ true → First w b (count_trailing_zeros 64 w)
+first-set-asked w b e = rw e (first-set w)
 
 -- where a clear one is
 pub first-clear-asked : (w : ℕ) (b : Bool) → b ≡ false → w < 2 ^ 64 → First w b (count_trailing_zeros 64 (2 ^ 64 - 1 - w))

@@ -63,7 +63,7 @@ unfolding with_bits
 bytes-with_bits b m a e = bytes-bit_bytes (length m) (λ k. pick within a e k then b else bit_set m k) 0
 
 -- what each bit is afterwards
-bit_set-with_bits : (b : Bool) (m : List ℕ) (a e k : ℕ) → k < 8 * length m → bit_set (with_bits b m a e) k ≡ (pick within a e k then b else bit_set m k)
+pub bit_set-with_bits : (b : Bool) (m : List ℕ) (a e k : ℕ) → k < 8 * length m → bit_set (with_bits b m a e) k ≡ (pick within a e k then b else bit_set m k)
 unfolding with_bits
 bit_set-with_bits b m a e k h = bit_set-bit_bytes (length m) (λ k. pick within a e k then b else bit_set m k) 0 k h ∙ ap (λ (i : ℕ). pick within a e i then b else bit_set m i) (zero-add k)
 
@@ -83,7 +83,7 @@ unfolding pick◌then◌else◌
 bit_set-after b m a e k h p = bit_set-with_bits b m a e k h ∙ rw (within-after a e k p) refl
 
 -- a map whose bits are so is that map
-is-with_bits : (b : Bool) (m l : List ℕ) (a e : ℕ) → length l ≡ length m → Bytes l
+pub is-with_bits : (b : Bool) (m l : List ℕ) (a e : ℕ) → length l ≡ length m → Bytes l
     → ((k : ℕ) → k < 8 * length m → a ≤ k → k < e → bit_set l k ≡ b)
     → ((k : ℕ) → k < 8 * length m → k < a → bit_set l k ≡ bit_set m k)
     → ((k : ℕ) → k < 8 * length m → e ≤ k → bit_set l k ≡ bit_set m k)
@@ -105,7 +105,7 @@ of : {x y : List ℕ} (k : ℕ) → x ≡ y → bit_set x k ≡ bit_set y k
 of k e = ap (λ (m : List ℕ). bit_set m k) e
 
 -- two ranges one behind the other are one
-with-with : (b : Bool) (m l t : List ℕ) (a n e : ℕ) → l ≡ with_bits b m a n → t ≡ with_bits b l n e → a ≤ n → n ≤ e → t ≡ with_bits b m a e
+pub with-with : (b : Bool) (m l t : List ℕ) (a n e : ℕ) → l ≡ with_bits b m a n → t ≡ with_bits b l n e → a ≤ n → n ≤ e → t ≡ with_bits b m a e
 with-with b m l t a n e p q x y =
     let s : length l ≡ length m = ap length p ∙ length-with_bits b m a n in
     let z : length t ≡ length m = ap length q ∙ length-with_bits b l n e ∙ s in
@@ -244,11 +244,11 @@ fill-three b m u v l a s t e p q r x y z = with-with b m v l a t e (with-with b 
 -- ---- the next bit of a kind
 
 -- found before the end of a part, it is found in the whole
-next-stop : (m : List ℕ) (b : Bool) (a s e r : ℕ) → Next m b a s r → r < s → s ≤ e → Next m b a e r
+pub next-stop : (m : List ℕ) (b : Bool) (a s e r : ℕ) → Next m b a s r → r < s → s ≤ e → Next m b a e r
 next-stop m b a s e r f h l = record { least = f.least; most = omega arith; before = f.before; found = λ u. f.found h }
 
 -- not found in a part, it is the one found behind it
-next-on : (m : List ℕ) (b : Bool) (a s e r t : ℕ) → Next m b a s r → s ≤ r → Next m b s e t → Next m b a e t
+pub next-on : (m : List ℕ) (b : Bool) (a s e r t : ℕ) → Next m b a s r → s ≤ r → Next m b s e t → Next m b a e t
 next-on m b a s e r t f h g =
     record { least = omega (arith, f.least, f.most, g.least); most = g.most; before = λ k p q. go k p q (dec_lt k r); found = g.found }
   where
@@ -374,13 +374,22 @@ unfolding count
 count_bits f a e r h = h ∙ ap length (filter_same f (range_with_len a (e - a)) ∙ ap (filter f) (range_same a (e - a)))
 
 -- after one word more
-pub count_word : (m : List ℕ) (a k t w : ℕ) → t ≡ count (bit_set m) (range a (64 * k)) → w ≡ le (part (a / 8 + 8 * k) 8 m) → w < 2 ^ 64 → a % 8 ≡ 0 → Bytes m
+pub count_word : (m : List ℕ) (a i t w : ℕ) → t ≡ count (bit_set m) (range a (8 * i - a)) → w ≡ le (part i 8 m) → w < 2 ^ 64 → a ≤ 8 * i → Bytes m
+    → t + ones w ≡ count (bit_set m) (range a (8 * (i + 8) - a))
+count_word m a i t w e q h l c =
+    let d : 8 * (i + 8) - a ≡ 8 * i - a + 64 = omega arith in
+    let y : a + (8 * i - a) ≡ 8 * i = omega arith in
+    let z : i ≡ 8 * i / 8 = omega arith in
+    let p : w ≡ le (part (8 * i / 8) 8 m) = rw (← z) q in
+    rw (d, count_add (bit_set m) a (8 * i - a) 64, y, e, count_ones (bit_set m) (8 * i) 64 w h (λ j g. sym (word-bit m (8 * i) w j p (omega arith) c g))) refl
+
+-- the same of so many whole words from a on
+pub count_words : (m : List ℕ) (a k t w : ℕ) → t ≡ count (bit_set m) (range a (64 * k)) → w ≡ le (part (a / 8 + 8 * k) 8 m) → w < 2 ^ 64 → a % 8 ≡ 0 → Bytes m
     → t + ones w ≡ count (bit_set m) (range a (64 * (k + 1)))
-count_word m a k t w e q h z c =
-    let d : 64 * (k + 1) ≡ 64 * k + 64 = omega arith in
-    let y : (a + 64 * k) / 8 ≡ a / 8 + 8 * k = omega arith in
-    let p : w ≡ le (part ((a + 64 * k) / 8) 8 m) = rw y q in
-    rw (d, count_add (bit_set m) a (64 * k) 64, e, count_ones (bit_set m) (a + 64 * k) 64 w h (λ j g. sym (word-bit m (a + 64 * k) w j p (omega arith) c g))) refl
+count_words m a k t w e q h z c =
+    let x : 64 * k ≡ 8 * (a / 8 + 8 * k) - a = omega arith in
+    let y : 8 * (a / 8 + 8 * k + 8) - a ≡ 64 * (k + 1) = omega arith in
+    rw y at (count_word m a (a / 8 + 8 * k) t w (rw x at e) q h (omega arith) c)
 
 -- at most every bit is set
 pub count_most : (f : ℕ → Bool) (a n t : ℕ) → t ≡ count f (range a n) → t ≤ n

@@ -3,8 +3,8 @@
 use mathlib.Core.Path.{◌≡◌, refl, sym, ap, ◌∙◌}
 use mathlib.Core.Bool.{Bool, true, false, not, ◌&&◌, ◌||◌}
 use mathlib.Core.List.{List}
-use Prim.Native.Nat.{ℕ, ◌+◌, ◌-◌, ◌*◌, ◌/◌, ◌%◌, ◌^◌, ◌≤◌, ◌<◌}
-use native.Mathlib.Nat.{mul_comm, eq_of_mul-eq-mul_right, mul-mod_left, mod-lt, div-add-mod', add_comm}
+use Prim.Native.Nat.{ℕ, zero, suc, ◌+◌, ◌-◌, ◌*◌, ◌/◌, ◌%◌, ◌^◌, ◌≤◌, ◌<◌}
+use native.Mathlib.Nat.{zero-mul, suc-mul, mul_comm, eq_of_mul-eq-mul_right, mul-mod_left, mod-lt, div-add-mod', add_comm}
 use native.Mathlib.Omega.{arith}
 use borrow.Author.Tests.{eqb-true, eq-eqb, not-true, not-false}
 use lib.Bits.{bit_and, bit_or, and_lt}
@@ -39,7 +39,7 @@ range_same f g a b n h =
     (λ e. all-range-of f a n (λ i l. h i l ∙ all-range-at g b n e i l))
 
 -- a range in two parts
-all-add : (f : ℕ → Bool) (a n m : ℕ) → all f (range a (n + m)) ≡ (all f (range a n) && all f (range (a + n) m))
+pub all-add : (f : ℕ → Bool) (a n m : ℕ) → all f (range a (n + m)) ≡ (all f (range a n) && all f (range (a + n) m))
 all-add f a n m = ap (all f) (range-add a n m) ∙ all_append f (range a n) (range (a + n) m)
 
 -- two parts one behind the other
@@ -86,6 +86,23 @@ high-clear w s h l =
     (λ z. bits-same (64 - s) (w / 2 ^ s) 0 (shr_lt (64 - s) s k) (pow_pos (64 - s))
     (λ j o. bit_shifted w s j ∙ not-true (bit_of w (s + j)) (all-range-at (λ j. not (bit_of w j)) s (64 - s) z j o) ∙ sym (bit-zero j)))
 
+-- a product with a number above zero that is zero
+left-zero : (x p : ℕ) → 0 < p → x * p ≡ 0 → x ≡ 0
+left-zero zero p l e = refl
+left-zero (suc x) p l e = absurd (omega (arith, suc-mul x p))
+
+-- the test of n bits of a word
+pub clear-part : (w s n : ℕ) → n ≤ 64 → eqb (w / 2 ^ s * 2 ^ (64 - n) % 2 ^ 64) 0 ≡ all (λ j. not (bit_of w j)) (range s n)
+clear-part w s n h =
+    zero-says (w / 2 ^ s * 2 ^ (64 - n) % 2 ^ 64) (all (λ j. not (bit_of w j)) (range s n))
+    (λ e. let z : w / 2 ^ s % 2 ^ n ≡ 0 = left-zero (w / 2 ^ s % 2 ^ n) (2 ^ (64 - n)) (pow_pos (64 - n)) (sym (moved (w / 2 ^ s) n h) ∙ e) in
+    all-range-of (λ j. not (bit_of w j)) s n
+    (λ i l. ap not (sym (bit_shifted w s i) ∙ sym (bit-low-part (w / 2 ^ s) n i l) ∙ ap (λ (x : ℕ). bit_of x i) z ∙ bit-zero i)))
+    (λ e. let z : w / 2 ^ s % 2 ^ n ≡ 0 =
+    bits-same n (w / 2 ^ s % 2 ^ n) 0 (mod-lt (w / 2 ^ s) (pow_pos n)) (pow_pos n)
+    (λ j l. bit-low-part (w / 2 ^ s) n j l ∙ bit_shifted w s j ∙ not-true (bit_of w (s + j)) (all-range-at (λ j. not (bit_of w j)) s n e j l) ∙ sym (bit-zero j)) in
+    moved (w / 2 ^ s) n h ∙ rw (z, zero-mul (2 ^ (64 - n))) refl)
+
 -- numbers are equal where a test passes
 equal-says : (x y : ℕ) (b : Bool) → (x ≡ y → b ≡ true) → (b ≡ true → x ≡ y) → eqb x y ≡ b
 equal-says x y b f g = same_tests (eqb x y) b (λ e. f (eqb-true x y e)) (λ e. eq-eqb x y (g e))
@@ -108,7 +125,7 @@ set-part w s n h =
     moved (w / 2 ^ s) n h ∙ ap (λ (x : ℕ). x * 2 ^ (64 - n)) z ∙ sym (moved 0xffffffffffffffff n h))
 
 -- the test of n bits of the word of those that pass
-holds-part : (f : ℕ → Bool) (a w s n : ℕ) (r : Bool) → Holds f a w → s + n ≤ 64 → r ≡ all (bit_of w) (range s n) → r ≡ all f (range (a + s) n)
+pub holds-part : (f : ℕ → Bool) (a w s n : ℕ) (r : Bool) → Holds f a w → s + n ≤ 64 → r ≡ all (bit_of w) (range s n) → r ≡ all f (range (a + s) n)
 holds-part f a w s n r h l e = e ∙ range_same (bit_of w) f s (a + s) n (λ i m. h.bits (s + i) (omega arith) ∙ ap f (omega arith))
 
 -- a word all of whose bits pass
@@ -174,6 +191,22 @@ pub passed-more : (f : ℕ → Bool) (a b k t w : ℕ) → eqb t 0xfffffffffffff
 passed-more f a b k t w e h g l m =
     let d : 64 * (k + 1) ≡ 64 * k + 64 = omega arith in
     and-ones t w l m ∙ rw (d, all-add f a (64 * k) 64, ← g, e, holds-all f b w m h) refl
+
+-- the same of the bits from byte i on and before byte k, and one word more
+pub failed-bytes : (f : ℕ → Bool) (i k t w : ℕ) → eqb t 0 ≡ all f (range (8 * i) (8 * (k - i))) → Holds (λ j. not (f j)) (8 * k) w → t < 2 ^ 64 → w < 2 ^ 64 → i ≤ k
+    → eqb (bit_or t w) 0 ≡ all f (range (8 * i) (8 * (k + 8 - i)))
+failed-bytes f i k t w e h l m o =
+    let d : 8 * (k + 8 - i) ≡ 8 * (k - i) + 64 = omega arith in
+    let g : 8 * i + 8 * (k - i) ≡ 8 * k = omega arith in
+    or-zero t w l m ∙ rw (d, all-add f (8 * i) (8 * (k - i)) 64, g, e, fails-none f (8 * k) w m h) refl
+
+-- the same of those that pass
+pub passed-bytes : (f : ℕ → Bool) (i k t w : ℕ) → eqb t 0xffffffffffffffff ≡ all f (range (8 * i) (8 * (k - i))) → Holds f (8 * k) w → t < 2 ^ 64 → w < 2 ^ 64 → i ≤ k
+    → eqb (bit_and t w) 0xffffffffffffffff ≡ all f (range (8 * i) (8 * (k + 8 - i)))
+passed-bytes f i k t w e h l m o =
+    let d : 8 * (k + 8 - i) ≡ 8 * (k - i) + 64 = omega arith in
+    let g : 8 * i + 8 * (k - i) ≡ 8 * k = omega arith in
+    and-ones t w l m ∙ rw (d, all-add f (8 * i) (8 * (k - i)) 64, g, e, holds-all f (8 * k) w m h) refl
 
 -- ---- the words of two maps
 

@@ -189,7 +189,7 @@ module _ (object : ℕ) (s : List ℕ) (place : ℕ) where
 
   module _ (t : Bool) (e : t ≡ owned_before object extent_bytes s place) where
     -- where it is remembered, an extent stands in front
-    own-some : t ≡ true → 1 ≤ place
+    pub own-some : t ≡ true → 1 ≤ place
     own-some p = owned-in-front object extent_bytes s place t e p
 
     -- and is one of the object
@@ -220,7 +220,7 @@ module _ (object block n : ℕ) (s : List ℕ) (place : ℕ) (e : place ≡ ends
         (λ p. absurd (clash (h.behind j l k) (up-to-reached object block (record_at decode_extent extent_bytes s j) p))) (λ p. p)
 
     -- the floor is the extent in front of it
-    floor-at : t ≡ true → ascending extent_before (decode_book decode_extent extent_bytes n s) ≡ true → FloorExtent object block n s (Some (place - 1))
+    pub floor-at : t ≡ true → ascending extent_before (decode_book decode_extent extent_bytes n s) ≡ true → FloorExtent object block n s (Some (place - 1))
     floor-at p h =
         let q : Parted (reached_at object block s) n place = parted-extents h in
         let l : 1 ≤ place = own-some object s place t o p in
@@ -249,7 +249,7 @@ module _ (object block n : ℕ) (s : List ℕ) (place : ℕ) (e : place ≡ ends
             pair_before-cases ⊥ (record_at decode_extent extent_bytes s j).object (record_at decode_extent extent_bytes s j).logical object 0 v (λ u. omega (arith, q)) (λ u y. omega arith))
 
     -- there is none
-    floor-none : t ≡ false → ascending extent_before (decode_book decode_extent extent_bytes n s) ≡ true → FloorExtent object block n s None
+    pub floor-none : t ≡ false → ascending extent_before (decode_book decode_extent extent_bytes n s) ≡ true → FloorExtent object block n s None
     floor-none p h =
         floor-extent object block n s None
         (found-no-last decode_extent extent_bytes s (extent_up_to object block) n 0 (omega arith) (λ j l k.

@@ -44,7 +44,7 @@ groups-below places wanted next h = if-false (ltb places wanted) 15 next (le-ltb
 -- ---- the extents
 
 -- an exchange that was made, with the number of extents that it leaves
-exchanges-of : (object : ℕ) (us bs : List ℕ) (m : ℕ) (book : List ℕ) (place cut count : ℕ) (made : List ℕ) → place + cut ≤ m → count ≤ 290
+pub exchanges-of : (object : ℕ) (us bs : List ℕ) (m : ℕ) (book : List ℕ) (place cut count : ℕ) (made : List ℕ) → place + cut ≤ m → count ≤ 290
     → Finished object us bs (extents_in m book) place (place + cut) count made → Exchanges object us bs m book place cut count made
 exchanges-of object us bs m book place cut count made l k f = record {
   inside = l;
@@ -53,9 +53,10 @@ exchanges-of object us bs m book place cut count made l k f = record {
   told = λ rs d. sym (finished-number object us bs rs m place cut count book made l f d);
 }
 
--- there are too few places for them
+-- there are too few places for them, whatever exchange is told beside the number
 pub extents-full : (object : ℕ) (us bs : List ℕ) (m : ℕ) (book : List ℕ) (place cut count : ℕ) (made : List ℕ) → place + cut ≤ m → count ≤ 290
-    → Finished object us bs (extents_in m book) place (place + cut) count made → length book / 33 < m - cut + count → ExtentsDecided object us bs m book 16 0 0 0 made
+    → Finished object us bs (extents_in m book) place (place + cut) count made → length book / 33 < m - cut + count
+    → {p c k : ℕ} → ExtentsDecided object us bs m book 16 p c k made
 unfolding book_places
 extents-full object us bs m book place cut count made l k f h =
     let x : Exchanges object us bs m book place cut count made = exchanges-of object us bs m book place cut count made l k f in
@@ -79,11 +80,11 @@ extents-fit object us bs m book place cut count made l k f h =
 
 module _ (object : ℕ) (us bs : List ℕ) (g : ℕ) (groups : List ℕ) (m : ℕ) (extents : List ℕ) (missing : ℕ)
     (h : (rs : List Rewritten) → map (λ r. r.unit) rs ≡ us → length (finished_groups object rs (groups_in g groups)) ≡ g + missing) where
-  -- there are too few places for the groups
-  pub groups-full : (made : List ℕ) → 1073 * g ≤ length groups → length groups / 1073 - g < missing
-      → Fits object us bs g groups m extents 15 0 0 0 0 made
+  -- there are too few places for the groups, whatever is told beside the number
+  pub groups-full : (left place cut count : ℕ) (made : List ℕ) → 1073 * g ≤ length groups → length groups / 1073 - g < missing
+      → Fits object us bs g groups m extents 15 left place cut count made
   unfolding book_places
-  groups-full made l q =
+  groups-full left place cut count made l q =
       let a : length groups / 1073 < g + missing = omega arith in
       record {
         decided = λ rs d. sym (groups-above (length groups / 1073) (length (finished_groups object rs (groups_in g groups))) _ (rw (← h rs d.units) at a));

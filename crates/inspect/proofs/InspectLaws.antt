@@ -10,13 +10,14 @@ use native.Mathlib.Omega.{arith}
 use lib.Dec.{eqb}
 use lib.ListN.{length, take, drop, get_or, get_or-eq_default}
 use lib.Seq.{take_at, drop_at}
+use borrow.Author.Tests.{eqb-true}
 use Rattle.rules.specs.Lists.{pick◌then◌else◌, maybe, given, range, all, any, begun}
 use Rattle.rules.specs.Sizes.{block_bytes, unit_blocks}
 use Rattle.rules.specs.Bytes.{all_zero}
 use Rattle.rules.specs.Checksum.{unit_checksum}
 use Rattle.rules.specs.Extent.{mapping}
 use Rattle.rules.specs.Store.{Volume}
-use Rattle.rules.specs.Refusal.{Refusal}
+use Rattle.rules.specs.Refusal.{Refusal, number_of}
 use Rattle.rules.specs.Refusal.Refusal.{no_checksum, not_backed, nonzero_past_end, checksum_differs}
 use Rattle.rules.specs.Units.{valid_length}
 use Rattle.rules.specs.Inspect.{checksum_of, backed_under, unit_mapping, valid_mapping, backed_bytes, valid_bytes, fully_backed, zero_past_end, checksum_right, inspect_slot, inspect_unit}
@@ -101,6 +102,21 @@ none-given mapped t i = go (dec_lt i (length mapped))
     go (yes l) = absent (get_or mapped i none) (none-at given mapped t i none l)
     go (no l) = get_or-eq_default mapped none {n = i} (omega arith)
 
+-- a unit with its slot and its sixteen blocks
+module _ (image uuid : List ℕ) (object size unit : ℕ) (mapped : List (Option ℕ)) (slot : Option ℕ) where
+  -- it is checked: its blocks are there, zeros follow its valid bytes, and its slot has their checksum
+  pub record IsChecked : Type 0 where
+    pub found : inspect_mapped image uuid object size unit mapped slot ≡ checked (valid_of image uuid object size unit mapped)
+    pub backed : all given (valid_blocks image uuid object size unit mapped) ≡ true
+    pub zeros : all_zero (drop (valid_length size unit) (bytes_at image (valid_blocks image uuid object size unit mapped))) ≡ true
+    pub slotted : slot ≡ some (unit_checksum uuid object unit (valid_of image uuid object size unit mapped))
+
+  -- it is a hole: it has no slot, and none of its blocks is there
+  pub record IsHole : Type 0 where
+    pub found : inspect_mapped image uuid object size unit mapped slot ≡ hole
+    pub unslotted : slot ≡ none
+    pub unmapped : (i : ℕ) → get_or mapped i none ≡ none
+
 module _ (image uuid : List ℕ) (object size unit : ℕ) (mapped : List (Option ℕ)) where
   -- a unit with a slot is no hole: three tests in a row give none
   not-hole : (a b c : Bool) (p q r : Refusal) (xs : List ℕ) → (pick a then damaged p else pick b then damaged q else pick c then damaged r else checked xs) ≡ hole → ⊥
@@ -112,12 +128,12 @@ module _ (image uuid : List ℕ) (object size unit : ℕ) (mapped : List (Option
 
   -- three tests in a row, none of which refused
   none-refused : (a b c : Bool) (p q r : Refusal) (xs ys : List ℕ) → (pick a then damaged p else pick b then damaged q else pick c then damaged r else checked xs) ≡ checked ys
-      → (a ≡ false) × (ys ≡ xs)
+      → (a ≡ false) × (b ≡ false) × (c ≡ false) × (ys ≡ xs)
   unfolding pick◌then◌else◌
   none-refused true b c p q r xs ys h = absurd (cc)
   none-refused false true c p q r xs ys h = absurd (cc)
   none-refused false false true p q r xs ys h = absurd (cc)
-  none-refused false false false p q r xs ys h = (refl, cc)
+  none-refused false false false p q r xs ys h = (refl, refl, refl, cc)
 
   -- the tests of refusals 11 and 12
   abbrev nonzero : Bool
@@ -126,33 +142,61 @@ module _ (image uuid : List ℕ) (object size unit : ℕ) (mapped : List (Option
   abbrev differs : ℕ → Bool
   differs crc = not (eqb crc (unit_checksum uuid object unit (valid_of image uuid object size unit mapped)))
 
-  -- the blocks of a unit that is checked are there, and it has their valid bytes
-  pub checked-backed : (slot : Option ℕ) (xs : List ℕ) → inspect_mapped image uuid object size unit mapped slot ≡ checked xs
-      → (all given (valid_blocks image uuid object size unit mapped) ≡ true) × (xs ≡ valid_of image uuid object size unit mapped)
+  -- a unit that is checked: what its blocks, its bytes and its slot are
+  pub answer-checked : (slot : Option ℕ) (xs : List ℕ) → inspect_mapped image uuid object size unit mapped slot ≡ checked xs
+      → IsChecked image uuid object size unit mapped slot × (xs ≡ valid_of image uuid object size unit mapped)
   unfolding inspect_mapped slot_mapped maybe pick◌then◌else◌
-  checked-backed none xs h = absurd (go (any given mapped) h)
+  answer-checked none xs h = absurd (go (any given mapped) h)
     where
       go : (b : Bool) → (pick b then damaged no_checksum else hole) ≡ checked xs → ⊥
       go true e = cc
       go false e = cc
-  checked-backed (some crc) xs h =
+  answer-checked (some crc) xs h =
       let a : Bool = all given (valid_blocks image uuid object size unit mapped) in
-      let t = none-refused (not a) nonzero (differs crc) not_backed nonzero_past_end checksum_differs (valid_of image uuid object size unit mapped) xs h in
-      (not-false a t.0, t.1)
+      let b : Bool = all_zero (drop (valid_length size unit) (bytes_at image (valid_blocks image uuid object size unit mapped))) in
+      let x : ℕ = unit_checksum uuid object unit (valid_of image uuid object size unit mapped) in
+      let t = none-refused (not a) nonzero (differs crc) not_backed nonzero_past_end checksum_differs (valid_of image uuid object size unit mapped) xs h in (
+        record {
+          found = rw (t.0, t.1, t.2) refl;
+          backed = not-false a t.0;
+          zeros = not-false b t.1;
+          slotted = ap some (eqb-true crc x (not-false (eqb crc x) t.2));
+        },
+        t.3,
+      )
 
-  -- none of the blocks of a hole is there
-  pub hole-unmapped : (slot : Option ℕ) → inspect_mapped image uuid object size unit mapped slot ≡ hole → (i : ℕ) → get_or mapped i none ≡ none
+  -- the blocks of a unit that is checked are there, and it has their valid bytes
+  pub checked-backed : (slot : Option ℕ) (xs : List ℕ) → inspect_mapped image uuid object size unit mapped slot ≡ checked xs
+      → (all given (valid_blocks image uuid object size unit mapped) ≡ true) × (xs ≡ valid_of image uuid object size unit mapped)
+  checked-backed slot xs h =
+      let t = answer-checked slot xs h in
+      (t.0.backed, t.1)
+
+  -- a hole: it has no slot, and none of its blocks is there
+  pub answer-hole : (slot : Option ℕ) → inspect_mapped image uuid object size unit mapped slot ≡ hole → IsHole image uuid object size unit mapped slot
   unfolding inspect_mapped slot_mapped maybe pick◌then◌else◌
-  hole-unmapped none h = none-given mapped (go (any given mapped) h)
+  answer-hole none h =
+      let t : any given mapped ≡ false = go (any given mapped) h in
+      record { found = h; unslotted = refl; unmapped = none-given mapped t }
     where
       go : (b : Bool) → (pick b then damaged no_checksum else hole) ≡ hole → b ≡ false
       go true e = absurd (cc)
       go false e = refl
-  hole-unmapped (some crc) h =
+  answer-hole (some crc) h =
       absurd (not-hole (not (all given (valid_blocks image uuid object size unit mapped))) nonzero (differs crc) not_backed nonzero_past_end checksum_differs (valid_of image uuid object size unit mapped) h)
+
+  -- none of the blocks of a hole is there
+  pub hole-unmapped : (slot : Option ℕ) → inspect_mapped image uuid object size unit mapped slot ≡ hole → (i : ℕ) → get_or mapped i none ≡ none
+  hole-unmapped slot h = (answer-hole slot h).unmapped
 
 -- units one after another, none of which was refused
 pub check-zero : (x : read.Checked) → checked_number x ≡ 0 → (xs : List ℕ) × (x ≡ bytes xs)
 unfolding checked_number
 check-zero (failed r) e = absurd (omega (arith, (numbered r).least))
 check-zero (bytes xs) e = (xs, refl)
+
+-- one that was refused: its number is a refusal's
+pub check-refused : (x : read.Checked) → (checked_number x ≡ 0 → ⊥) → (r : Refusal) × (x ≡ failed r) × (checked_number x ≡ number_of r)
+unfolding checked_number
+check-refused (failed r) d = (r, refl, refl)
+check-refused (bytes xs) d = absurd (d refl)

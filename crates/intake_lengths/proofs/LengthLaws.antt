@@ -1,7 +1,7 @@
 -- Refusal 1 of the rules is the tests of the lengths and of what the head says.
 use Rattle.std.proofs.Common.{◌≡◌, refl, ap, not, ◌&&◌, List, ℕ, ◌/◌, eqb, leb, length}
 use Rattle.std.proofs.Math.Bool.{and_assoc}
-use Rattle.rules.specs.Head.{decode_head}
+use Rattle.rules.specs.Head.{Head, decode_head}
 use Rattle.rules.specs.Card.{card_bytes}
 use Rattle.rules.specs.Extent.{extent_bytes}
 use Rattle.rules.specs.Group.{group_bytes}
@@ -11,6 +11,17 @@ use Rattle.rules.specs.Lengths.{image_fits, map_fits, book_fits, buffers_fit, he
 use Rattle.intake_lengths.specs.LengthTests.{buffers_right, head_right}
 
 module _ (s : Store) where
+  -- the tests of the lengths are those of the rules
+  pub buffers-are : buffers_fit s ≡ buffers_right (length s.image) (length s.cards) (length s.extents) (length s.groups) (length s.used) (length s.retired)
+  unfolding buffers_fit image_fits map_fits book_fits image_blocks book_places
+  buffers-are = refl
+
+  -- so are those of the head
+  pub head-is : (h : Head)
+      → (head_fits s h && counts_fit s h) ≡ head_right (length s.image / 4096) (length s.cards / card_bytes) (length s.extents / extent_bytes) (length s.groups / group_bytes) h
+  unfolding head_fits counts_fit image_blocks book_places
+  head-is h = refl
+
   -- of every call but fresh
   pub wrong_is : length_wrong s
       ≡ not (buffers_right (length s.image) (length s.cards) (length s.extents) (length s.groups) (length s.used) (length s.retired)

@@ -2,6 +2,7 @@
 -- Assumes nothing.
 use Rattle.std.proofs.Common.{◌≡◌, ℕ, zero, suc, ◌+◌, ◌-◌, ◌*◌, ◌/◌, ◌%◌, ◌^◌, ◌<◌, ◌≤◌, Bool, true, false, not, ◌&&◌, ◌||◌, eqb, List, [], ◌∷◌, get_or, sym, refl, ap, ◌∙◌, add-one, arith, pow_mono, shr-shr, eq-eqb, ne_eqb}
 use Rattle.std.specs.Int.{from_le_bytes, w16}
+use Rattle.std.specs.Prelude.{Option, Some, None}
 use mathlib.Core.Bool.{and-false}
 use native.Mathlib.Nat.{div-eq_of_lt}
 use native.Mathlib.Decide.{dec_lt}
@@ -15,7 +16,7 @@ use Rattle.rules.proofs.CountLaws.{same_test}
 use Rattle.bitmap.specs.Map.{bit_of, First}
 use Rattle.bitmap.proofs.BitLaws.{bit-low, bit-half, bit-zero, bit-or, bit-and, bit_not, bit-alike, bit_below, bit-above, bits-same, first_some}
 use Rattle.bitmap.proofs.MapLaws.{bit_set-is, word-bit}
-use Rattle.runs.specs.Runs.{clear, Starts, Half, Meets, AnyMeets, Passed, LowestAt}
+use Rattle.runs.specs.Runs.{clear, Starts, Half, Meets, AnyMeets, Passed, LowestAt, Lowest}
 
 -- ---- where runs begin in a word
 
@@ -159,6 +160,19 @@ passed_on map n a e p q s l m h =
     go b u v w (yes x) = s.before b u x w
     go b u v w (no x) = h b (omega arith) v w
 
+-- the lowest run is sought from there on
+pub lowest-on : (map : List ℕ) (n a e p : ℕ) (r : Option ℕ) → Passed map n a e p → Lowest map n p e r → Lowest map n a e r
+lowest-on map n a e p None s t = passed_on map n a e p e s s.most (omega arith) t.before
+lowest-on map n a e p (Some q) s t =
+    let u : Passed map n p e q = t.passed in
+    record { passed = passed_on map n a e p q s u.least u.most u.before; inside = t.inside; found = t.found }
+
+-- and where too few bits are left there is none
+pub lowest-none : (map : List ℕ) (n a e p : ℕ) → Passed map n a e p → e - p < n → Lowest map n a e None
+lowest-none map n a e p s l =
+    let m : p ≤ e = s.most in
+    passed_on map n a e p e s m (omega arith) (λ b u v w. absurd (omega arith))
+
 -- ---- bit by bit
 
 -- a window with no set bit is a run, and the lowest
@@ -278,6 +292,10 @@ meets-more map i k x z v r h hx hz a =
         eq-eqb v 0
         (a.each n (λ i' b c. hx.each i' c ∙ ap (λ (y : ℕ). bit_set map (16 * y + i')) (sym o) ∙ u i' b c) (λ i' b c. hz.each i' c ∙ ap (λ (y : ℕ). bit_set map (16 * (y + 1) + i')) (sym o) ∙ w i' b c))
 
+-- all of them
+pub meets-all : (map : List ℕ) (i end k : ℕ) (r : Bool) → AnyMeets map i k r → end ≤ k → AnyMeets map i end r
+meets-all map i end k r h l = record { each = λ j m p q. h.each j m p (omega arith) }
+
 -- where that is so of none of them no sixteen clear bits begin in them
 pub halves-passed : (map : List ℕ) (a e i last : ℕ) (r : Bool) → i ≡ a / 16 → a % 16 ≡ 0 → i ≤ last → 16 * last ≤ e → AnyMeets map i last r → r ≡ false → Passed map 16 a e (16 * last) × (16 * last % 8 ≡ 0)
 halves-passed map a e i last r ei z l m h d = (
@@ -294,3 +312,7 @@ halves-passed map a e i last r ei z l m h d = (
     -- a bit of the window is clear
     inside : (b k : ℕ) → all (clear map) (range b 16) ≡ true → b ≤ k → k < b + 16 → bit_set map k ≡ false
     inside b k t p q = not-true (bit_set map k) (unfold clear in ap (clear map) (omega arith) ∙ all-range-at (clear map) b 16 t (k - b) (omega arith))
+
+-- the lowest run is sought behind what is passed over
+pub lowest-passed : (map : List ℕ) (n a e p : ℕ) (r : Option ℕ) → n ≡ 16 → Passed map 16 a e p → Lowest map n p e r → Lowest map n a e r
+lowest-passed map n a e p r o s t = lowest-on map n a e p r (rw o s) t

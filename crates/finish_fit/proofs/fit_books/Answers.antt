@@ -11,7 +11,7 @@ use Rattle.finish_fit.proofs.fit_books.Goals as goal
 
 pub returns-then-groups-g : goal.returns-then-groups-g
 unfolding number_of refusal_of
-returns-then-groups-g c = groups-full _ _ _ _ _ _ _ _ c.missing_groups-missing.ensures _ (omega arith) c.if-groups-g.true
+returns-then-groups-g c = groups-full _ _ _ _ _ _ _ _ c.missing_groups-missing.ensures _ _ _ _ _ (omega arith) c.if-groups-g.true
 
 pub returns-in_err-exchange : goal.returns-in_err-exchange
 returns-in_err-exchange c =
