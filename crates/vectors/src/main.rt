@@ -119,7 +119,7 @@ fn card(rt: &impl Print) -> io::Result<()> {
     println!(rt; "creation nanoseconds of it: {}", c.created_nanoseconds)
 }
 
-// A map of 96 bits: a range set in single bits and in words, and one bit of it cleared.
+// A map of 96 bits: a range set in single bits and in whole bytes, and one bit of it cleared.
 fn bits(rt: &impl Print) -> io::Result<()> {
     let mut m = [0u8; 12];
     bitmap::set_range(&mut m, 3, 85);
